@@ -7,7 +7,7 @@ help:
 	@echo "make demo       shows a picture and the sizes of its grains in one to two minutes; then proves and builds morphd"
 	@echo "make morphd     proves and builds morphd alone, as crates/morphd/out/morphd"
 	@echo "make library    proves and links out/libmorphd.so and out/libmorphd.a, which C calls by include/morphd.h"
-	@echo "make check-library  holds them against the plain model, and runs the programs of docs/LIBRARY.md"
+	@echo "make check-library  holds them against the reference model, and runs the programs of docs/LIBRARY.md"
 	@echo "make install    puts what is built into PREFIX, which is /usr/local if left out; make uninstall takes it away"
 	@echo "make dist       packs what is built into out/dist: a tarball, a wheel, and Debian's packages; it needs no rt"
 	@echo "make check-dist makes them twice, looks at them, and installs, tries and removes them in bare roots of Debian"
@@ -17,7 +17,7 @@ help:
 	@echo "make where NAME=..  prints where a type, a function or a word of definitions stands"
 	@echo "make documents  compares the documents with the repository, replays their examples, and compares header and proved functions"
 	@echo "make memory     refuses each allocation and each start of a thread in turn, and measures memory"
-	@echo "make soak       runs random sessions beside a plain model, and two servers with good and bad clients; FOR=seconds"
+	@echo "make soak       runs random sessions beside a reference model, and two servers with good and bad clients; FOR=seconds"
 	@echo "make bench      takes the times of docs/dev/PERFORMANCE.md"
 	@echo "make costs      counts instructions, and compares them with those that are kept"
 	@echo "make python     makes the Python package with the library in it, as a wheel in out"
@@ -168,17 +168,17 @@ soak: toolchain python3
 	@python3 -B checks/soak_serve.py $(MORPHD) $(FOR) $(SEED)
 	@python3 -B checks/passed.py $@ $(BEGUN)
 
-# Best on a machine that does nothing else: each line is the best of five runs in one thread (of `bench_core` the best of
-# three, of the board also with workers). The C library is told to keep what is freed, so that copies, reads and writes
+# Best on a machine that does nothing else: each line is the best of five runs in one thread (of the core and the board
+# the best of three, of the board also with workers). The C library is told to keep what is freed, so that copies, reads and writes
 # alike find memory that the system has given already. Without words, as where they are built, the programs end at once.
 KEEP = MALLOC_MMAP_MAX_=0 MALLOC_TRIM_THRESHOLD_=17179869184
 
 bench: toolchain python3
-	@python3 -B checks/prove.py morphd bench_kernels bench_core
-	$(KEEP) crates/bench_kernels/out/bench_kernels measure files
-	$(KEEP) crates/bench_kernels/out/bench_kernels measure all
-	crates/bench_core/out/bench_core measure core
-	crates/bench_core/out/bench_core measure board
+	@python3 -B checks/prove.py morphd bench_parts
+	$(KEEP) crates/bench_parts/out/bench_parts measure files
+	$(KEEP) crates/bench_parts/out/bench_parts measure all
+	crates/bench_parts/out/bench_parts measure core
+	crates/bench_parts/out/bench_parts measure board
 	python3 bench/command.py $(MORPHD)
 	python3 -B bench/operations.py $(MORPHD)
 	python3 bench/workers.py $(MORPHD)

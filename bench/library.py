@@ -1,6 +1,6 @@
 #!/usr/bin/python3
 """Times libmorphd beside OpenCV, both in one thread and by turns in one run, on images of 4096 x 4096, with the samples of
-bench_kernels. The best of so many rounds counts, by the time of the processor; both write into an array that is there already.
+bench_parts. The best of so many rounds counts, by the time of the processor; both write into an array that is there already.
 
     /usr/bin/python3 bench/library.py out/libmorphd.so [ROUNDS [WORD]]
     /usr/bin/python3 bench/library.py out/libmorphd.so memory [WORD]

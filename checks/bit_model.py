@@ -2,7 +2,7 @@
 
 A set is one number of Python, whose bits are its pixels, so one sum or one shift goes over all of them at once. A picture of
 levels is a chain of sets: of the places with each level or more. Erosions, dilations and ranks of it are those of its sets.
-checks/plain_model.py goes pixel by pixel; checks/large_calls.py holds the two beside one another on small pictures.
+checks/reference_model.py goes pixel by pixel; checks/large_calls.py holds the two beside one another on small pictures.
 """
 import functools
 import itertools

@@ -1,5 +1,5 @@
 """What a client of a server knows of the entries there, and which replies may come to what it asks for, when others work
-on the same board. The values are those of checks/plain_model.py.
+on the same board. The values are those of checks/reference_model.py.
 
 A name that no other client uses has one history, but for when its work is done. A name that others use too may at any time
 be accepted, cancelled or released by them. So of each entry a set is kept of how it may stand; a reply that fits none of
@@ -7,11 +7,11 @@ these is refused, and each reply narrows it.
 """
 import threading
 
-import plain_model
+import reference_model
 
 ABSENT, PENDING, DONE, CANCELLED, FAILED, RELEASED = "ABSENT", "PENDING", "DONE", "CANCELLED", "FAILED", "RELEASED"
 DEAD = {CANCELLED, FAILED}
-REFUSALS = {code: ("ERR %d %s\n" % (code, word)).encode() for code, word in plain_model.WORDS.items()}
+REFUSALS = {code: ("ERR %d %s\n" % (code, word)).encode() for code, word in reference_model.WORDS.items()}
 
 
 class Differs(Exception):
@@ -40,17 +40,17 @@ class Definition:
     def text(self):
         """The bytes that a FETCH hands out."""
         is_curve = self.shape[0] == "CURVE"
-        return plain_model.curve_text(self.value()) if is_curve else plain_model.image_text(self.value())
+        return reference_model.curve_text(self.value()) if is_curve else reference_model.image_text(self.value())
 
 
 def image(name, payload):
     """The definition that a LOAD makes, or the code that refuses its payload."""
-    f = plain_model.image_in(payload)
+    f = reference_model.image_in(payload)
     return Definition(name, b"LOAD %s %d\n" % (name.encode(), len(payload)) + payload, tuple(f[:4]), (), lambda: f)
 
 
 def element(name, payload, ox, oy):
-    b = plain_model.element_in(payload, ox, oy)
+    b = reference_model.element_in(payload, ox, oy)
     line = b"ELEMENT %s %d %d %d\n" % (name.encode(), ox, oy, len(payload))
     return Definition(name, line + payload, ("ELEMENT", b.width, b.height), (), lambda: b)
 
@@ -59,11 +59,11 @@ def command(name, operation, reads, numbers):
     """The definition that a RUN makes of the definitions that it reads. Its shape and value mean something only where the
     command is accepted."""
     words = ["RUN", name, operation, *(it.name for it in reads), *map(str, numbers)]
-    shape = plain_model.shape_after(operation, reads[0].shape, numbers[0] if numbers else None) if len(reads[0].shape) == 4 else None
+    shape = reference_model.shape_after(operation, reads[0].shape, numbers[0] if numbers else None) if len(reads[0].shape) == 4 else None
 
     def make():
         elements = [it.value().offsets for it in reads[1:]]
-        return plain_model.OPERATIONS[operation][2](reads[0].value(), *elements, *numbers)
+        return reference_model.OPERATIONS[operation][2](reads[0].value(), *elements, *numbers)
     made = Definition(name, " ".join(words).encode() + b"\n", shape, tuple(reads), make)
     made.operation, made.numbers = operation, numbers
     return made
@@ -194,7 +194,7 @@ class Judge:
         return seen
 
     def is_value(self, entry, word, request, reply):
-        """A value that is handed out is that of the plain definition."""
+        """A value that is handed out is that of the definition."""
         is_curve, text = entry.what.shape[0] == "CURVE", entry.what.text()
         unless(word == b"FETCH" and DONE in entry.may_be(), request, reply, "handed out")
         line = b"%s %s %d\n" % (b"CURVE" if is_curve else b"IMAGE", reply[0].split()[1], len(text))
@@ -240,7 +240,7 @@ def refusals_of(entry):
             return codes, False
     try:
         elements = [it.what.value() for it in entry.reads[1:]]
-        plain_model.check_arguments(what.operation, entry.reads[0].what.shape, elements, what.numbers[0] if what.numbers else None)
-    except plain_model.Refused as refused:
+        reference_model.check_arguments(what.operation, entry.reads[0].what.shape, elements, what.numbers[0] if what.numbers else None)
+    except reference_model.Refused as refused:
         return codes | {refused.code}, False
     return codes, True

@@ -8,7 +8,7 @@ import subprocess
 import time
 
 import ends
-import plain_model
+import reference_model
 import soak
 from ends import ALONE, PATIENCE, Left
 from peers import ERODE, GIVEN, Wrong, must_be
@@ -69,9 +69,9 @@ def worked_sessions_in_pieces(program):
 
 
 def worked_sessions_are_the_models(_program):
-    """The plain model writes what is stored, too."""
+    """The reference model writes what is stored, too."""
     for name, session, output, status in worked():
-        must_be(plain_model.served(session)[:2], (output, status), name + " by the plain model")
+        must_be(reference_model.served(session)[:2], (output, status), name + " by the reference model")
 
 
 # Lines that are none: other letters, blanks, ends of lines and numbers, too few and too many words, and no operations.
@@ -239,10 +239,10 @@ def without_a_pattern(seed):
 
 
 def scripts_by_several_workers(program):
-    """A crew of any size writes over tiles of any side what the plain model writes."""
+    """A crew of any size writes over tiles of any side what the reference model writes."""
     for seed in (1, 2, 3):
         session = without_a_pattern(seed)
-        output, status, _ = plain_model.served(session)
+        output, status, _ = reference_model.served(session)
         must_be((status, len(output) > 10000), (0, True), "a session without a pattern")
         for workers, side in ((1, 1024), (1, 64), (2, 64), (4, 64), (7, 64), (7, 128)):
             left = ends.whole(program, session, ("--workers", str(workers), "--tile", str(side)))

@@ -4,13 +4,16 @@ something else.
 """
 import os
 import pathlib
+import re
 import subprocess
 
 from cases_batch import threads_of_batch
 from ends import PATIENCE
 from peers import Wrong, must_be
-from plain_model import OPERATIONS
+from reference_model import OPERATIONS
 
+# Command lines, each with all that is told of it, and its status behind that.
+TOLD = pathlib.Path(__file__).resolve().with_name("command_lines.txt")
 VERSION = (pathlib.Path(__file__).resolve().parents[1] / "VERSION").read_text().strip()
 
 
@@ -34,20 +37,24 @@ FAULTS = {
     "batch --tile 1088": TILE,
     "batch --tile 0 --workers 0": WORKERS,
     "batch --workers 65": WORKERS,
+    "batch --workers 0 --tile 65": WORKERS,
     "listen --port 0": PORT,
     "listen --port 0 --workers 0": PORT,
     "listen --port 65536": PORT,
     "listen --port 7001 --workers 65 --sessions 0": WORKERS,
     "listen --port 7001 --workers 0": WORKERS,
+    "listen --port 7001 --workers 0 --sessions 0": WORKERS,
     "listen --port 7001 --sessions 0 --tile 1": SESSIONS,
     "listen --port 7001 --sessions 65": SESSIONS,
+    "listen --port 7001 --sessions 65 --tile 65": SESSIONS,
     "listen --port 7001 --tile 100": TILE,
     "listen --port 7001 --idle 86401": IDLE,
     "listen --port 7001 --idle 0": IDLE,
     "listen --port 7001 --idle 0 --tile 1": TILE,
+    "listen --port 7001 --tile 100 --idle 0": TILE,
     "serve --port 65536 --workers 0": "error: port must be from 0 to 65535",
     "serve --workers 65 --sessions 0": WORKERS,
-    "serve --sessions 1025 --tile 1": "error: sessions must be from 1 to 1024",
+    "serve --sessions 1025 --tile 65": "error: sessions must be from 1 to 1024",
     "serve --sessions 0": "error: sessions must be from 1 to 1024",
     "serve --tile 1 --idle 0": TILE,
     "serve --idle 0": IDLE,
@@ -93,11 +100,31 @@ def words_that_are_taken(program):
         must_be((status, output.count(b"\n"), faults), (0, 1, b""), "morphd " + line)
 
 
+def stored():
+    """What each of these command lines ends with and tells: helps on standard output, what clap refuses on standard error."""
+    told = TOLD.read_text(encoding="utf-8")
+    blocks = re.findall(r"^\$ morphd (.*)\n((?:.*\n)*?)\[([0-9]+)\]\n", told, re.MULTILINE)
+    must_be(sum(len("$ morphd %s\n%s[%s]\n" % it) for it in blocks), len(told), "the length of what is stored")
+    return {line: (0, text.encode(), b"") if status == "0" else (int(status), b"", text.encode()) for line, text, status in blocks}
+
+
+def told_of(program, line):
+    """What is told of a command line, in which a build of another name is called morphd."""
+    status, *texts = ran(program, line)
+    name = os.path.basename(program).encode()
+    return status, *(re.sub(rb"(?<![^\s`'])" + re.escape(name) + rb"(?![\w.])", b"morphd", it) for it in texts)
+
+
+def texts_word_for_word(program):
+    """Each of them."""
+    for line, wanted in stored().items():
+        must_be(told_of(program, line), wanted, "morphd " + line)
+
+
 def helps(program):
-    """Each goes to standard output with status 0."""
-    for line in ("--help", "batch --help", "listen --help", "serve --help", "help"):
-        status, output, faults = ran(program, line)
-        must_be((status, b"\nUsage: " in output, faults), (0, True, b""), "morphd " + line)
+    """The word asks for the same text as the option."""
+    for line, option in (("help", "--help"), ("help batch", "batch --help")):
+        must_be(told_of(program, line), stored()[option], "morphd " + line)
 
 
 def help_shows_a_session(program):
@@ -136,5 +163,5 @@ def as_many_workers_as_processors(program):
     os.sched_setaffinity(0, mine)
 
 
-CASES = (lines_of_faults, words_that_clap_refuses, words_that_are_taken, helps, help_shows_a_session, help_of_a_batch_names_the_operations,
-         version_is_shown, help_that_nobody_takes, as_many_workers_as_processors)
+CASES = (lines_of_faults, words_that_clap_refuses, words_that_are_taken, texts_word_for_word, helps, help_shows_a_session,
+         help_of_a_batch_names_the_operations, version_is_shown, help_that_nobody_takes, as_many_workers_as_processors)

@@ -275,6 +275,27 @@ def listen_has_its_port_workers_and_sessions(program):
         ends(server)
 
 
+def listen_has_its_least_words(program):
+    """Two workers and one session where nothing else is asked for."""
+    server = Server.__new__(Server)
+    server.port = free_port()
+    words = [program, "listen", "--port", str(server.port)]
+    server.run = subprocess.Popen(words, stdin=subprocess.DEVNULL, stdout=subprocess.DEVNULL, stderr=subprocess.PIPE)
+    with server:
+        with connected(server) as client:
+            must_be(client.ask(b"STATUS x\n")[0], UNKNOWN, "the client's reply")
+            must_be(server.threads(), 4, "the threads of a server of one client")
+        ends(server)
+
+
+def listen_has_its_greatest_numbers(program):
+    """64 workers for 64 sessions."""
+    with Server(program, 64, workers=64, tile=64) as server:
+        with connected(server) as client:
+            must_be(client.ask(b"STATUS x\n")[0], UNKNOWN, "the first client's reply")
+            must_be(server.threads(), 66, "the threads beside one client")
+
+
 def busy_workers(program, side):
     """How many of three workers have computed a rank of 512 x 512 samples."""
     with Server(program, 1, workers=3, tile=side) as server:
@@ -299,6 +320,6 @@ CASES = (
     a_thousand_answers_in_one_write, a_long_file_is_loaded, quit_stops_reading, faults_end_a_session, workers_overlap,
     cancel_fails_dependents, what_is_released_serves_nothing_new, clients_that_are_not_waited_for,
     who_pauses_within_a_line_is_waited_for, bad_peers_end_alone, replies_are_sent_at_once, port_is_told, line_that_nobody_takes,
-    listen_has_its_port_workers_and_sessions, listen_has_its_tiles, bad_peers.port_is_taken, bad_peers.within_a_line,
-    bad_peers.within_a_payload, bad_peers.within_a_reply, bad_peers.no_line_end,
+    listen_has_its_port_workers_and_sessions, listen_has_its_least_words, listen_has_its_greatest_numbers, listen_has_its_tiles,
+    bad_peers.port_is_taken, bad_peers.within_a_line, bad_peers.within_a_payload, bad_peers.within_a_reply, bad_peers.no_line_end,
 )

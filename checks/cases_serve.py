@@ -2,6 +2,7 @@
 case takes the program, and stops by `Wrong` where it does something else. No case fails because a machine is slow: what must take
 at most so long may take many times as long, or is tried several times.
 """
+import os
 import select
 import socket
 import subprocess
@@ -444,7 +445,7 @@ def serve_has_its_workers_and_tiles(program):
 
 
 def serve_until_it_is_killed(program):
-    """Without the word for it, the end of its input does not end it."""
+    """Without the word for it, the end of its input does not end it. It has a thread of its own, and one for each of 16 sessions."""
     run = subprocess.Popen([program, "serve"], stdin=subprocess.DEVNULL, stdout=subprocess.PIPE, stderr=subprocess.PIPE)
     with run:
         try:
@@ -453,6 +454,7 @@ def serve_until_it_is_killed(program):
             with Client(socket.create_connection(("127.0.0.1", port), PATIENCE), PATIENCE) as client:
                 client.send(ERODE + b"QUIT\n")
                 must_be(client.rest(), ERODED, "a session of a service that has nothing to read")
+            must_be(len(os.listdir("/proc/%d/task" % run.pid)), 17, "the threads of a service")
         finally:
             run.kill()
 

@@ -300,7 +300,7 @@ def of_source(dist):
     home = folder / dist.source.name.removesuffix(".tar.gz")
     names = set(archives.all_below(home))
     tests = {str(it.relative_to(ROOT / "python")) for it in (ROOT / "python/tests").rglob("*.py")}
-    for name in sorted({*layout.LICENCES, "tests/plain_model.py", "pyproject.toml", "setup.py", "README.md", *tests} - names):
+    for name in sorted({*layout.LICENCES, "tests/reference_model.py", "pyproject.toml", "setup.py", "README.md", *tests} - names):
         yield f"the source archive has no {name}"
     if any("libmorphd" in it for it in names):
         yield "the source archive has a library"

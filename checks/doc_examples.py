@@ -1,7 +1,7 @@
 """Replays the examples of the documents, for checks/docs.py: the requests and replies of docs/PROTOCOL.md, and the scripts of
 README.md and docs/COOKBOOK.md with what they print.
 
-They go to the built program where it is there, and else to the model of checks/plain_model.py.
+They go to the built program where it is there, and else to the model of checks/reference_model.py.
 """
 import collections
 import os
@@ -11,7 +11,7 @@ import subprocess
 import sys
 import tempfile
 
-import plain_model
+import reference_model
 
 ROOT = os.path.dirname(os.path.dirname(os.path.realpath(__file__)))
 PROGRAM = f"{ROOT}/crates/morphd/out/morphd"
@@ -22,12 +22,12 @@ STAND_IN = """#!{python}
 import sys
 sys.path.insert(0, {folder!r})
 sys.dont_write_bytecode = True
-import plain_model
+import reference_model
 import quick_sets
 quick_sets.install()
 if sys.argv[1:] != ["batch"]:
     sys.exit("the model serves `morphd batch` alone")
-output, status, _ = plain_model.served(sys.stdin.buffer.read())
+output, status, _ = reference_model.served(sys.stdin.buffer.read())
 sys.stdout.buffer.write(output)
 sys.exit(status)
 """
@@ -68,7 +68,7 @@ def served(session):
     """What the program writes, or the model where no program is built."""
     if os.path.exists(PROGRAM):
         return subprocess.run([PROGRAM, "batch"], input=session, stdout=subprocess.PIPE, stderr=subprocess.DEVNULL).stdout
-    return plain_model.served(session)[0]
+    return reference_model.served(session)[0]
 
 
 def rows(text, heading, width):
@@ -136,7 +136,7 @@ def of_requests(text):
         if b"ERR 10" in served(prelude + session):
             yield line, f"{example} is refused as no line"
     operations = {cells[0].split()[2] for _, cells in rows(text, "Lines", 3) if cells[0].startswith("`RUN ")}
-    if operations != set(plain_model.OPERATIONS):
+    if operations != set(reference_model.OPERATIONS):
         yield 1, f"the table of lines has the operations {sorted(operations)}"
 
 
@@ -295,10 +295,10 @@ def made(text, room):
     if "eroded.pgm" not in text or not os.path.exists(f"{room}/eroded.pgm"):
         return
     with open(f"{ROOT}/examples/grains.pgm", "rb") as file:
-        image = plain_model.image_in(file.read())
-    eroded = plain_model.erosion(image, [(dx, dy) for dy in (-1, 0, 1) for dx in (-1, 0, 1)])
+        image = reference_model.image_in(file.read())
+    eroded = reference_model.erosion(image, [(dx, dy) for dy in (-1, 0, 1) for dx in (-1, 0, 1)])
     with open(f"{room}/eroded.pgm", "rb") as file:
-        if file.read() != plain_model.image_text(eroded):
+        if file.read() != reference_model.image_text(eroded):
             yield line_at(text, text.index("eroded.pgm")), "eroded.pgm is not the erosion of the picture"
 
 

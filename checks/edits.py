@@ -10,6 +10,7 @@ see the wrong body, tests that tell it. The text that an edit turns stands in it
 The crates named edits_* are leaves: nothing stands on them. Each of their public functions names another one in its comment, repeats the
 contract of that, word for word, and only calls it. So a wrong body that is refused there is refused by the real contract too. That holds
 only while the contracts are the same: a look at both says so. Of a method the leaf's function takes the object as its first parameter.
+What a leaf tries by a name that stands in real code lies in its wrong-bodies, and is tried where a contract has changed.
 """
 import argparse
 import os
@@ -27,7 +28,7 @@ type_top_as_neutral opening_without_reflection tile_without_halo finish_trusts_n
 image_under_another_ticket sample_over_maxval crlf_as_one_delimiter skeleton_without_residue rank_pads_with_zero idle_with_ready_task
 ready_count_zero never_settles settles_early iterate_by_one_element status_of_opening_state call_alters_older_entry audit_always_yes
 audit_always_no script_runs_no_work line_by_whole_window number_with_leading_zero two_blanks serve_skips_request forgets_running_task
-refuses_innocent_ticket pass_swaps_image pass_swaps_pixels
+refuses_innocent_ticket pass_swaps_image
 """.split()
 # The wrong bodies that no contract sees, each with the tests that tell it.
 TESTS = {

@@ -4,7 +4,7 @@ built programs that are named: in a minute or two, so the gate makes it.
 
     python3 -B checks/fixed_soaks.py crates/morphd/out/morphd [PROGRAM..]
 
-Each session of `morphd batch` is held, byte for byte, against the plain model (checks/plain_model.py) or what is known in closed
+Each session of `morphd batch` is held, byte for byte, against the reference model (checks/reference_model.py) or what is known in closed
 form (checks/full_size.py). At a board 64 clients work at once, and each image and curve that comes is held against the plain
 definitions. It begins by spoiling what each program writes, and stops where it does not notice that. A program that does
 not end is told after LONGEST seconds.
@@ -16,7 +16,7 @@ import sys
 import time
 
 import full_size
-import plain_model
+import reference_model
 import soak
 import soak_listen
 from board_knowledge import Differs
@@ -32,7 +32,7 @@ LONGEST = 120
 
 
 class Quick(soak_listen.Small):
-    """Small images, that the plain model is quick with; some lie over two tiles, and a few over four."""
+    """Small images, that the reference model is quick with; some lie over two tiles, and a few over four."""
 
     def frame(self):
         return super().frame() if self.often(15) else (66, 65)
@@ -64,7 +64,7 @@ def words_of(number):
 
 
 def by_the_model(name, data, number):
-    wanted, status, _ = plain_model.served(data)
+    wanted, status, _ = reference_model.served(data)
     return Case(name, data, wanted, status, words_of(number))
 
 

@@ -1,14 +1,14 @@
 """Sessions at full size, each with what `morphd batch` has to write. Nothing here is made by the program: what comes out is known
-in closed form, or by checks/plain_model.py. The samples of the largest frames rise with each column and each row, so an erosion
+in closed form, or by checks/reference_model.py. The samples of the largest frames rise with each column and each row, so an erosion
 by a full square shows at each place the sample of its upper left corner.
 """
-import plain_model
+import reference_model
 
 SQUARE = b"P1\n3 3\n111\n111\n111\n"
 BAR = b"ELEMENT b 1 0 11\nP1\n3 1\n111\n"
 # Columns, rows and maxval.
 BYTES, WORDS = (4096, 4096, 255), (8192, 2048, 65535)
-MOST = plain_model.MOST_ENTRIES
+MOST = reference_model.MOST_ENTRIES
 
 
 def with_bytes(line, payload):
@@ -51,7 +51,7 @@ def wide_spectrum():
     """The last erosions see so far that the window of a tile is the frame."""
     row = b"P5\n4096 1\n65535\n" + b"".join(x.to_bytes(2, "big") for x in range(4096))
     data = with_bytes(b"LOAD f", row) + with_bytes(b"ELEMENT b 127 0", b"P1\n255 1\n" + b"1" * 255)
-    curve = plain_model.curve_text([volume(n) for n in range(33)])
+    curve = reference_model.curve_text([volume(n) for n in range(33)])
     return data + b"RUN q SPECTRUM f b 32\nFETCH q\n", b"OK 0\nOK 1\nOK 2\n" + with_bytes(b"CURVE 2", curve)
 
 
@@ -59,11 +59,11 @@ def wide_spectrum():
 
 
 def by_the_model(*lines):
-    """A row of 2,000 samples with a dark one in the middle, a bar, and these lines. The plain model tells what comes."""
+    """A row of 2,000 samples with a dark one in the middle, a bar, and these lines. The reference model tells what comes."""
     samples = bytearray(b"\x09" * 2000)
     samples[1000] = 0
     data = with_bytes(b"LOAD f", b"P5\n2000 1\n9\n" + bytes(samples)) + BAR + b"".join(lines)
-    return data, plain_model.served(data)[0]
+    return data, reference_model.served(data)[0]
 
 
 def one_erosion():
@@ -117,7 +117,7 @@ def all_cancelled():
 
 def longest_payload(line, front, told):
     """A payload as long as may be is refused for what is in it, and the session goes on."""
-    size = plain_model.LONGEST_PAYLOAD
+    size = reference_model.LONGEST_PAYLOAD
     data = b"%s %d\n" % (line, size) + front + bytes(size - len(front)) + b"LOAD f 11\nP2\n1 1\n9\n5\nSTATUS x\nSTATUS f\n"
     return data, told + b"OK 0\nERR 41 UNKNOWN\nDONE 0 GREY 1 1 9\n"
 

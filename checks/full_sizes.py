@@ -1,12 +1,12 @@
 """Stored sessions on pictures of as many pixels as there may be, 4096 x 4096 and 8192 x 2048, and what has to be written.
 
 Levels rise with each column and each row. So the least and the greatest sample under a square stand at a corner of what it sees,
-and the middle one of three in a row in the middle. `hold` stops where checks/plain_model.py says something else of small ones.
+and the middle one of three in a row in the middle. `hold` stops where checks/reference_model.py says something else of small ones.
 """
 from collections.abc import Callable
 from typing import NamedTuple
 
-import plain_model
+import reference_model
 from session_parts import Element, Script, box
 
 
@@ -121,8 +121,8 @@ SESSIONS = {
 
 
 def hold() -> None:
-    """Stops where the plain model says something else of small slopes."""
+    """Stops where the reference model says something else of small slopes."""
     for slope in (Slope(20, 9, 1, 12), Slope(9, 20, 255, 3), Slope(17, 12, 999, 1)):
         given, wanted = session(slope, (3, 5))
-        if plain_model.served(given)[0] != wanted:
-            raise SystemExit(f"full_sizes.py: the plain model says something else of {slope}")
+        if reference_model.served(given)[0] != wanted:
+            raise SystemExit(f"full_sizes.py: the reference model says something else of {slope}")

@@ -1,6 +1,6 @@
 """Calls of libmorphd by elements of up to 255 x 255 pixels, on pictures up to the limit, beside checks/bit_model.py.
 
-Each picture has a few levels. Small pictures go through checks/plain_model.py too, so that the two models are held beside one
+Each picture has a few levels. Small pictures go through checks/reference_model.py too, so that the two models are held beside one
 another.
 """
 import collections

@@ -1,5 +1,5 @@
 #!/usr/bin/env python3
-"""Holds a built libmorphd against the plain model (checks/plain_model.py) on random images, elements, origins and numbers,
+"""Holds a built libmorphd against the reference model (checks/reference_model.py) on random images, elements, origins and numbers,
 with and without faults, from one thread and from four; against checks/bit_model.py by elements of up to 255 x 255 pixels and on
 pictures up to the limit; refuses each of its allocations in turn, and counts them; looks which names it shows; and runs the
 programs of docs/LIBRARY.md, the one in C also with the sanitizers of addresses and of undefined behaviour.
@@ -21,7 +21,7 @@ import large_calls
 import library_calls as calls
 import library_links
 import library_memory
-import plain_model
+import reference_model
 
 ROOT = calls.ROOT
 CALLS, BATCHES = 3000, 200
@@ -113,7 +113,7 @@ def session_of(call):
     f = call.image
     samples = [int(s != 0) for s in f.samples] if f.kind == "set" else f.samples
     kind = "BIT" if f.kind == "set" else "GREY"
-    text = plain_model.image_text(plain_model.Image(kind, f.width, f.height, 1 if f.kind == "set" else f.maxval, samples))
+    text = reference_model.image_text(reference_model.Image(kind, f.width, f.height, 1 if f.kind == "set" else f.maxval, samples))
     parts = [b"LOAD f %d\n" % len(text), text]
     for name, b in zip("bc", call.bitmaps):
         bitmap = b"P1\n%d %d\n" % (b.width, b.height) + b"".join(b"1" if p else b"0" for p in b.pixels)
@@ -137,9 +137,9 @@ def beside_program(library, program, chance):
         _, out = calls.made(library, call)
         samples = out[calls.MARGIN:-calls.MARGIN]
         if calls.family(call) == "spectrum":
-            same = plain_model.curve_text(samples) == text
+            same = reference_model.curve_text(samples) == text
         else:
-            same = list(calls.asked_of(call, plain_model.image_in(text).samples)) == samples
+            same = list(calls.asked_of(call, reference_model.image_in(text).samples)) == samples
         if not same:
             sys.exit("DIFFERS from morphd batch: %r" % (call,))
     return count
@@ -197,7 +197,7 @@ def main():
         sys.exit("the version is not 1")
     seen = one_by_one(library, chance)
     told = ", ".join("%d: %d" % it for it in sorted(seen.items()))
-    print("%d random calls beside the plain model; answers: %s" % (CALLS, told))
+    print("%d random calls beside the reference model; answers: %s" % (CALLS, told))
     side_by_side(library, chance)
     print("four threads at once make the same")
     print("%d calls for rows beside the whole result" % rows_beside_whole(library, chance))

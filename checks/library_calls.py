@@ -1,12 +1,12 @@
 """Calls of libmorphd by ctypes, with the types that include/morphd.h declares; random calls, with and without faults; and
-what each of them has to be answered, by the plain model and by the header's order of refusals.
+what each of them has to be answered, by the reference model and by the header's order of refusals.
 """
 import collections
 import ctypes
 import pathlib
 import re
 
-import plain_model
+import reference_model
 
 ROOT = pathlib.Path(__file__).resolve().parent.parent
 TYPES = {"int32_t": ctypes.c_int32, "uint32_t": ctypes.c_uint32, "uint8_t": ctypes.c_uint8, "uint16_t": ctypes.c_uint16,
@@ -170,12 +170,12 @@ def wanted(call):
 
 
 def value(call):
-    """The samples of the result, by the plain model."""
+    """The samples of the result, by the reference model."""
     f, what = call.image, family(call)
     samples = [int(s != 0) for s in f.samples] if f.kind == "set" else f.samples
-    g = plain_model.Image("BIT" if f.kind == "set" else "GREY", f.width, f.height, 1 if f.kind == "set" else f.maxval, samples)
+    g = reference_model.Image("BIT" if f.kind == "set" else "GREY", f.width, f.height, 1 if f.kind == "set" else f.maxval, samples)
     elements = [offsets(b) for b in call.bitmaps]
-    result = plain_model.OPERATIONS[operation(call)][2](g, *elements, *operation_numbers(call))
+    result = reference_model.OPERATIONS[operation(call)][2](g, *elements, *operation_numbers(call))
     return result if what == "spectrum" else asked_of(call, result.samples)
 
 

@@ -8,7 +8,7 @@
     python3 checks/python_package.py lacks    prints Debian's packages of what the tests take and its Python lacks
     python3 checks/python_package.py wheel    out/morphd-VERSION-py3-none-PLATFORM.whl, with the library in it
 
-The stand-in is made of checks/plain_model.py. `test` fails where pytest or NumPy is missing. Of other modules it says what is missing
+The stand-in is made of checks/reference_model.py. `test` fails where pytest or NumPy is missing. Of other modules it says what is missing
 and what is skipped for that. It takes the Python that has most of them, or the one that PYTHON names. Nothing is fetched from a network.
 """
 import glob
@@ -135,7 +135,7 @@ def copied(room, library):
     copy = os.path.join(room, "python")
     shutil.copytree(os.path.join(ROOT, "python"), copy, ignore=shutil.ignore_patterns("__pycache__", "build", "*.egg-info", ".*", "libmorphd.*"))
     shutil.copy(library, os.path.join(copy, "morphd", "libmorphd.so.1"))
-    shutil.copy(os.path.join(ROOT, "checks", "plain_model.py"), os.path.join(copy, "tests"))
+    shutil.copy(os.path.join(ROOT, "checks", "reference_model.py"), os.path.join(copy, "tests"))
     return copy
 
 

@@ -1,4 +1,4 @@
-"""checks/plain_model.py made quick: what it computes of sets goes by checks/bit_model.py, where a set is one number, and the samples of
+"""checks/reference_model.py made quick: what it computes of sets goes by checks/bit_model.py, where a set is one number, and the samples of
 levels under an element are taken run by run.
 
 `install` puts that in the place of the plain ways, behind which all else stays as it is; `hold` stops where the two differ.
@@ -8,11 +8,11 @@ from collections.abc import Callable
 from typing import NamedTuple
 
 import bit_model
-import plain_model
-from plain_model import Image
+import reference_model
+from reference_model import Image
 
-plain_seen = plain_model.seen
-PLAIN = {"erosion": plain_model.erosion, "dilation": plain_model.dilation, "rank": plain_model.rank}
+plain_seen = reference_model.seen
+PLAIN = {"erosion": reference_model.erosion, "dilation": reference_model.dilation, "rank": reference_model.rank}
 QUICK = {"erosion": bit_model.erosion, "dilation": bit_model.dilation, "rank": bit_model.rank}
 LINES = {"erosion": "ERODE", "dilation": "DILATE", "rank": "RANK"}
 Offsets = list[tuple[int, int]]
@@ -97,16 +97,16 @@ def quick(name: str) -> Callable[..., Image]:
 
 
 def install() -> None:
-    plain_model.seen = seen
+    reference_model.seen = seen
     for name, line in LINES.items():
         operator = quick(name)
-        setattr(plain_model, name, operator)
-        plain_model.OPERATIONS[line] = (*plain_model.OPERATIONS[line][:2], operator)
+        setattr(reference_model, name, operator)
+        reference_model.OPERATIONS[line] = (*reference_model.OPERATIONS[line][:2], operator)
 
 
 def hold(count: int = 200) -> None:
     """Stops where a quick way makes another picture than the plain one."""
-    chance, now = random.Random("quick model"), plain_model.seen
+    chance, now = random.Random("quick model"), reference_model.seen
     for number in range(count):
         width, height, maxval = chance.randint(1, 12), chance.randint(1, 9), chance.choice((1, 999))
         samples = [chance.randint(0, maxval) for _ in range(width * height)]
@@ -116,9 +116,9 @@ def hold(count: int = 200) -> None:
         b = chance.sample(places, chance.randint(1, 9))
         for name in PLAIN:
             numbers = (chance.randint(1, len(b)),) if name == "rank" else ()
-            plain_model.seen = seen
+            reference_model.seen = seen
             made = quick(name)(f, b, *numbers)
-            plain_model.seen = plain_seen
+            reference_model.seen = plain_seen
             if made != PLAIN[name](f, b, *numbers):
                 raise SystemExit(f"quick_model.py: {name} {numbers} by {b} of picture {number} differs")
-    plain_model.seen = now
+    reference_model.seen = now

@@ -1,10 +1,10 @@
-"""Erosions and dilations of sets for checks/plain_model.py, a row of pixels as one number, so that examples take seconds.
+"""Erosions and dilations of sets for checks/reference_model.py, a row of pixels as one number, so that examples take seconds.
 
 `install` puts them in the place of the plain ones; python/tests/test_examples.py holds both beside one another.
 """
-import plain_model
+import reference_model
 
-plain_erosion, plain_dilation = plain_model.erosion, plain_model.dilation
+plain_erosion, plain_dilation = reference_model.erosion, reference_model.dilation
 
 
 def rows_of(samples, width):
@@ -40,4 +40,4 @@ def erosion(f, b):
 
 
 def install():
-    plain_model.erosion, plain_model.dilation = erosion, dilation
+    reference_model.erosion, reference_model.dilation = erosion, dilation

@@ -1,7 +1,7 @@
 """Writes random sessions: names, files with and without faults, small images, elements, commands of all operations on what
 earlier commands make, cancels, releases, and ends of every kind.
 """
-import plain_model
+import reference_model
 
 LETTERS = "abcdefghijklmnopqrstuvwxyz0123456789_-"
 # Lines that end a session.
@@ -13,7 +13,7 @@ class Writer:
     """Writes a random session. A machine of the model tells it what stands under the names that it gave."""
 
     def __init__(self, chance):
-        self.chance, self.parts, self.machine = chance, [], plain_model.Session()
+        self.chance, self.parts, self.machine = chance, [], reference_model.Session()
         self.names = {"BIT": [], "GREY": [], "ELEMENT": [], "CURVE": []}
 
     def often(self, n):
@@ -26,9 +26,9 @@ class Writer:
         self.parts.append(request)
         before = len(self.machine.entries)
         try:
-            word, words, payload, _ = plain_model.request(request, 0)
-            plain_model.answer(self.machine, "STATUS" if word == "FETCH" else word, words, payload)
-        except plain_model.Refused:
+            word, words, payload, _ = reference_model.request(request, 0)
+            reference_model.answer(self.machine, "STATUS" if word == "FETCH" else word, words, payload)
+        except reference_model.Refused:
             return
         for entry in self.machine.entries[before:]:
             self.names[entry.shape[0]].append(entry.name)
@@ -139,8 +139,8 @@ class Writer:
         return self.chance.choice((1, 1, 2, 2, 3, 3, 4, 5) + ((7,) if self.often(4) else (30,)))
 
     def run(self):
-        operation = self.chance.choice(list(plain_model.OPERATIONS))
-        elements, numbers, _ = plain_model.OPERATIONS[operation]
+        operation = self.chance.choice(list(reference_model.OPERATIONS))
+        elements, numbers, _ = reference_model.OPERATIONS[operation]
         images = ("BIT",) if operation == "SKELETON" and self.often(9) else ("BIT", "GREY")
         words = ["RUN", self.new_name(), operation, self.old_name(images)]
         words += [self.old_name(("ELEMENT",)) for _ in range(elements)]

@@ -1,6 +1,6 @@
 #!/usr/bin/env python3
 """Runs a built morphd over sessions with each of its allocations refused in turn, and holds what it writes against the
-machine of checks/plain_model.py: every reply has to be the machine's, but for one mark of the refused allocation. A mark is
+machine of checks/reference_model.py: every reply has to be the machine's, but for one mark of the refused allocation. A mark is
 a request that is answered 50, a pending entry that is killed before work is done, or the end of the session by 50.
 
 With `--strict` the status is 3 exactly where it would be 0 and a request was answered 50, in a session that is answered no
@@ -25,7 +25,7 @@ import sys
 import tempfile
 import time
 
-import plain_model
+import reference_model
 
 HERE = pathlib.Path(__file__).resolve().parent
 FIVE = b"LOAD f 19\nP2\n5 1\n9\n3 1 4 1 5\n"
@@ -124,14 +124,14 @@ LACKED = "a request was answered 50"
 ENDED = "the session was ended"
 
 
-class Entry(plain_model.Entry):
+class Entry(reference_model.Entry):
     """An entry of the plain machine that can be killed for want of memory, too."""
 
     def is_dead(self):
         return self.outcome == MEMORY or super().is_dead()
 
 
-class Session(plain_model.Session):
+class Session(reference_model.Session):
     """The plain machine, with entries that are killed."""
 
     def copied(self):
@@ -173,15 +173,15 @@ def remembered(operator):
 
 def remember_all():
     """Lets the plain machine remember what its operators made."""
-    plain_model.OPERATIONS.update((word, (elements, numbers, remembered(operator)))
-                                  for word, (elements, numbers, operator) in list(plain_model.OPERATIONS.items()))
+    reference_model.OPERATIONS.update((word, (elements, numbers, remembered(operator)))
+                                  for word, (elements, numbers, operator) in list(reference_model.OPERATIONS.items()))
 
 
 def requests(data):
     """The requests of a session, each as its word, its words and its payload. Sessions here have no faults."""
     at, found = 0, []
     while at < len(data):
-        word, words, payload, at = plain_model.request(data, at)
+        word, words, payload, at = reference_model.request(data, at)
         found.append((word, words, payload))
         if word == "QUIT":
             return found
@@ -192,9 +192,9 @@ def replied(session, asked):
     """The machine behind the request, and what it answers."""
     after = session.copied()
     try:
-        return after, plain_model.answer(after, *asked)
-    except plain_model.Refused as refused:
-        return after, plain_model.refusal(refused.code)
+        return after, reference_model.answer(after, *asked)
+    except reference_model.Refused as refused:
+        return after, reference_model.refusal(refused.code)
 
 
 def before(session, word):

@@ -40,7 +40,7 @@ LONGEST = int(5 * PATIENCE)
 # How many are at work at once: most of them wait, and of those that are to fail nearly all.
 AT_ONCE, FAILING_AT_ONCE = 6, 16
 FAULTS = (Wrong, NoAnswer, Hangs, subprocess.TimeoutExpired)
-# It compares stored sessions with the plain model, and asks no program.
+# It compares stored sessions with the reference model, and asks no program.
 WITHOUT_PROGRAM = ("batch.worked_sessions_are_the_models",)
 # They compute much, or send many megabytes.
 LONG = {"batch": ("as_many_entries_as_there_may_be", "scripts_by_several_workers", "batch_has_its_workers_and_tiles",

@@ -1,6 +1,6 @@
 #!/usr/bin/env python3
 """Runs random sessions of all operations by a built morphd, and holds each output, byte for byte, and each exit status
-against a plain model (checks/plain_model.py): names, files with and without faults, small images over tiles of three
+against a reference model (checks/reference_model.py): names, files with and without faults, small images over tiles of three
 sides, commands on what earlier commands make, cancels, releases, and sessions that end anywhere.
 
     python3 checks/soak.py crates/morphd/out/morphd [SECONDS [SEED]]
@@ -22,7 +22,7 @@ import subprocess
 import sys
 import time
 
-import plain_model
+import reference_model
 from random_session import written
 
 HERE = pathlib.Path(__file__).resolve().parent
@@ -79,7 +79,7 @@ WORKED = (b"LOAD f 19\nP2\n5 1\n9\n3 1 4 1 5\nELEMENT b 1 0 11\nP1\n3 1\n111\nRU
 
 def notices(program):
     """Whether each spoiled output of a session is seen to differ, and the output itself is not."""
-    output, status, found = plain_model.served(WORKED)
+    output, status, found = reference_model.served(WORKED)
     made = ran(program, WORKED, SIDES[0])
     wanted = (output, status, found["requests"])
     return not differs(made, *wanted) and all(differs(spoiled, *wanted) for spoiled in spoiled_outputs(made))
@@ -102,14 +102,14 @@ class Soak:
     """Sessions one after another, what was counted of them, and what is at work."""
 
     def __init__(self, program, seed):
-        self.program, self.seed, self.number, self.at_work = program, seed, 0, "the plain model"
+        self.program, self.seed, self.number, self.at_work = program, seed, 0, "the reference model"
         self.counts = collections.Counter()
 
     def one_more(self):
         """Runs and compares the next session."""
         session, side = written(random.Random("%s %d" % (self.seed, self.number))), SIDES[self.number % 3]
-        self.at_work = "the plain model"
-        output, status, found = plain_model.served(session)
+        self.at_work = "the reference model"
+        output, status, found = reference_model.served(session)
         self.at_work = "the program"
         made = ran(self.program, session, side)
         if differs(made, output, status, found["requests"]):

@@ -2,7 +2,7 @@
 """Runs a `morphd listen` with 64 connections at once for as long as is asked for. Each has random sessions over names of its
 own and over some that it shares with others, half of these sessions with cancels and releases; some connections are broken
 off. Each reply has to be one that may come (checks/board_knowledge.py), and each image and curve that comes is compared
-with the plain definition (checks/plain_model.py).
+with the definition (checks/reference_model.py).
 
     python3 checks/soak_listen.py crates/morphd/out/morphd [SECONDS [SEED]]
 
@@ -22,7 +22,7 @@ import threading
 import time
 
 import board_knowledge
-import plain_model
+import reference_model
 from board_knowledge import ABSENT, DEAD, DONE, PENDING, RELEASED, Differs, Entry, Judge, Tickets
 from random_session import Writer
 from server import Client, NoAnswer, Server
@@ -42,7 +42,7 @@ CALL, ENTRY, SLACK = 344, 720, 16 << 20
 
 
 class Small(Writer):
-    """Payloads of images that the plain definitions are quick with; some lie over two tiles."""
+    """Payloads of images that the definitions are quick with; some lie over two tiles."""
 
     def frame(self):
         if self.often(6):
@@ -70,14 +70,14 @@ def some_given(chance, name, kind):
     while True:
         try:
             return given(chance, name, kind)
-        except plain_model.Refused:
+        except reference_model.Refused:
             pass
 
 
 def some_command(chance, name, images, elements):
     """The definition of a random command on some of these definitions."""
-    operation = chance.choice(list(plain_model.OPERATIONS))
-    count, numbers, _ = plain_model.OPERATIONS[operation]
+    operation = chance.choice(list(reference_model.OPERATIONS))
+    count, numbers, _ = reference_model.OPERATIONS[operation]
     reads = [chance.choice(images)] + [chance.choice(elements) for _ in range(count)]
     return board_knowledge.command(name, operation, reads, [Small(chance).number(operation) for _ in range(numbers)])
 
@@ -165,7 +165,7 @@ class Hand:
         name = self.new_name()
         try:
             what = given(self.chance, name, kind)
-        except plain_model.Refused as fault:
+        except reference_model.Refused as fault:
             return self.refused_payload(name, kind, fault.code)
         entry = Entry(what, (), False)
         self.own.append(entry)
@@ -179,8 +179,8 @@ class Hand:
             numbers = "%d %d " % (ox, oy) if kind == "ELEMENT" else ""
             request = ("%s %s %s%d\n" % ("ELEMENT" if kind == "ELEMENT" else "LOAD", name, numbers, len(payload))).encode()
             try:
-                plain_model.element_in(payload, ox, oy) if kind == "ELEMENT" else plain_model.image_in(payload)
-            except plain_model.Refused as fault:
+                reference_model.element_in(payload, ox, oy) if kind == "ELEMENT" else reference_model.image_in(payload)
+            except reference_model.Refused as fault:
                 return self.refused(request + payload, fault.code)
         return self.refused(b"LOAD %s 0\n" % name.encode(), 20)
 

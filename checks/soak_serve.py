@@ -1,7 +1,7 @@
 #!/usr/bin/env python3
 """Runs a `morphd serve` with 64 clients at once for as long as is asked for. Each makes one connection after the other, sends
 a random session of all operations (checks/random_session.py), ten times over, in pieces and with pauses, and compares every
-byte that comes with the plain model (checks/plain_model.py): the sessions share no name, whatever names they use. Some clients
+byte that comes with the reference model (checks/reference_model.py): the sessions share no name, whatever names they use. Some clients
 break their connection off anywhere. Beside them there are always one that keeps silent, one that sends a byte a second of a payload of
 134,217,728 bytes, and one that does not read what it asks for.
 
@@ -25,7 +25,7 @@ import sys
 import threading
 import time
 
-import plain_model
+import reference_model
 from random_session import written
 from server import NoAnswer, Service
 
@@ -50,7 +50,7 @@ SQUARE = b"P1\n5 5\n" + b"1" * 25 + b"\n"
 
 
 class Differs(Exception):
-    """Something else came than the plain model has."""
+    """Something else came than the reference model has."""
 
 
 def settings_of_unit():
@@ -102,7 +102,7 @@ class Hand:
         data = written(random.Random("%s %d %d" % (self.soak.seed, self.number, self.made)))
         self.made += 1
         with self.soak.away():
-            return data, plain_model.served(data)
+            return data, reference_model.served(data)
 
     def session(self, data, model):
         with self.soak.service.connect(PATIENCE) as client:

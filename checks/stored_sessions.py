@@ -8,7 +8,7 @@ holds programs against them.
     python3 -B checks/stored_sessions.py --test    spoils copies of outputs, and sees that each is told
 
 No program has a part in what is stored: sessions are written by checks/session_kinds.py, and what is expected of them is what
-checks/plain_model.py says, which goes pixel by pixel after the documents. Of pictures up to the limit checks/full_sizes.py says it.
+checks/reference_model.py says, which goes pixel by pixel after the documents. Of pictures up to the limit checks/full_sizes.py says it.
 """
 import lzma
 import os
@@ -17,7 +17,7 @@ from concurrent.futures import ProcessPoolExecutor
 from typing import NamedTuple
 
 import full_sizes
-import plain_model
+import reference_model
 import quick_model
 import session_kinds
 
@@ -88,7 +88,7 @@ def difference(found: bytes, wanted: bytes) -> str:
 
 def said(name: str, given: bytes) -> Stored:
     """What has to be written on a session of small pictures. With `--strict` a refusal that a session goes on after is told by 3."""
-    output, status, counts = plain_model.served(given)
+    output, status, counts = reference_model.served(given)
     words = ("--strict",) if name.startswith("strict") else ()
     is_refused = any(word.startswith("refused") for word in counts)
     return Stored(name, given, output, 3 if words and is_refused and status == 0 else status, words)

@@ -44,7 +44,8 @@ HEAD = """# Of each crate how many wrong bodies it has, and the sum of what all 
 # `widened` stands behind a row that was taken over from a sum of the crate's own code, definitions and wrong bodies: these are known
 # to be as they were when all were refused. The rest that the sum covers (its proofs, its row of crates.txt, the kit, and what the crates
 # below promise) is as it was when the row was taken over. `moved` stands where text moved between crates since all were refused
-# (checks/moved_bodies.py). To try the crate takes these words away.
+# (checks/moved_bodies.py). `due` stands where a crate, or what it stands on, came to say the same in other words, and its wrong bodies
+# were not tried since: a run without names tries them. To try the crate takes these words away.
 """
 # What `rt ci` said last, and what it says where it can keep nothing.
 LOG, KEEPS_NOTHING = f"{ROOT}/out/ci.log", "so nothing is kept"
@@ -119,6 +120,12 @@ def changed(names):
     kept, sums = rows(), sums_now()
     has_any = [it for it in names if edits_in(home_of(it), FOLDER)]
     return [it for it in has_any if it not in kept or kept[it].sum != sums.wide(it)]
+
+
+def due(names):
+    """The crates whose rows say that their wrong bodies are to be tried."""
+    kept = rows()
+    return [it for it in names if it in kept and "due" in kept[it].mark]
 
 
 def lost():
@@ -369,8 +376,9 @@ def main():
     if lacking := [it for it in given.crates if not edits_in(home_of(it), FOLDER)]:
         words().error(f"these crates have no wrong bodies: {' '.join(lacking)}")
     wanted = given.crates or changed(names)
-    if given.list or not wanted:
+    if given.list or not (wanted or due(names)):
         return tell(wanted)
+    wanted = given.crates or sorted({*wanted, *due(names)}, key=names.index)
     failed = try_all(wanted, max(1, given.jobs))
     print(f"{len(wanted) - len(failed)} of {len(wanted)} crates refuse each of their wrong bodies")
     return 1 if failed else 0

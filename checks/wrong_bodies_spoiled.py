@@ -53,6 +53,20 @@ pub(crate) fn inner(n: u32) -> u32
 {
     n
 }
+
+pub fn spare(n: u32) -> u32
+    ensures { Held n }
+{
+    n
+}
+
+impl Box {
+    pub fn eq(&self, other: &Box) -> bool
+        ensures { Held result }
+    {
+        true
+    }
+}
 """
 TOP = """#![tactic(auto)]
 use low::{half, Box};
@@ -281,14 +295,20 @@ MOVED = {
     "crates/top/src/quarters.rt": TOP.replace("#![tactic(auto)]\n", "").partition("const")[0].replace("half(half", "halved(halved"),
     "crates/top/wrong-bodies/once.edit": "file: src/quarters.rt\nold:     halved(halved(n))\nnew:     halved(n)\n",
     EDIT: "file: src/quarters.rt\nold:     halved(halved(n))\nnew:     n\n",
-    "crates/low/src/lib.rt": LOW.replace("half", "halved"),
+    "crates/low/src/lib.rt": LOW.replace("half", "halved").replace("inner(n: u32) -> u32\n    ensures { result ≡ n }", "inner(n: u32) -> u32\n    ensures { n ≡ result }")
+    .replace("spare(n: u32) -> u32\n    ensures { Held n }", "spare(n: u32) -> u32\n    ensures { Held result }")
+    .replace("pub struct Box", "pub const NOUGHT: u32 = 0;\n\npub struct Box").replace("requires { 0 < n }", "requires { NOUGHT < n }"),
     "crates/top/specs/Lib.antt": "",
-    "crates/low/specs/More.antt": "use Rattle.std.specs.Prelude.{ℕ}\n\ntwo :\n  2 ≡ 2\n",
+    "crates/low/specs/More.antt": "use Rattle.std.specs.Prelude.{ℕ}\n\ntwo :\n  2 ≡ 2\n\nfour :\n  4 ≡ 4\n",
+    "crates/low/src/more.rt": "pub fn whole(n: u32) -> u32\n    ensures { result ≡ n }\n{\n    n\n}\n\nimpl Box {\n    pub fn hold_twice(&self) -> u32 {\n        2\n    }\n}\n",
 }
 NOT_MOVED = (
     ("a definition that is another where it went", "crates/low/specs/More.antt", "2 ≡ 2", "2 ≡ 3"),
     ("code that is other code where it went", "crates/top/src/quarters.rt", "halved(halved(n))\n", "halved(halved(n)) + 0\n"),
     ("a clause below that is new", "crates/low/src/lib.rt", "ensures { Held result }", "ensures { Held n }"),
+    ("a clause below of what is called without its name", "crates/low/src/lib.rt", "bool\n        ensures { Held result }", "bool\n        ensures { Held self }"),
+    ("a new clause of what stood below", "crates/low/src/more.rt", "whole", "halved"),
+    ("a new definition of what stood below", "crates/low/specs/More.antt", "four :", "Held :"),
     ("a wrong body that is new", EDIT, "new:     n", "new:     n + n"),
     ("a proof that is new", "crates/top/proofs/Lib.antt", "3 ≡ 3", "3 ≡ 4"),
 )
@@ -299,7 +319,7 @@ def of_moves(small):
     for path, text in FILES.items():
         small.put(path, text)
     shutil.rmtree(f"{small.room}/crates/base", ignore_errors=True)
-    small.put("map", "half halved\n")
+    small.put("map", "half halved\n0 NOUGHT\n")
     small.run()
     git = ["git", "--work-tree", small.room, "-c", "user.name=a", "-c", "user.email=a@b"]
     for words in (["init", "-q"], ["add", "crates", "crates.txt", "checks"], ["commit", "-qm", "as it was"]):

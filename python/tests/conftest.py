@@ -37,7 +37,7 @@ if USES_STAND_IN:
 
 
 def pytest_report_header():
-    stand = "a slow stand-in made of checks/plain_model.py, since none is built"
+    stand = "a slow stand-in made of checks/reference_model.py, since none is built"
     told = [f"library: {stand if USES_STAND_IN else 'the one that is built'}"]
     if collect_ignore:
         told.append(f"NumPy is missing: {', '.join(collect_ignore)} are left out")

@@ -1,4 +1,4 @@
-"""A slow stand-in for the program `morphd`, made of the plain model in checks/plain_model.py: `batch`, `listen` and `serve`.
+"""A slow stand-in for the program `morphd`, made of the reference model in checks/reference_model.py: `batch`, `listen` and `serve`.
 
     python3 fake_program.py batch
     python3 fake_program.py listen --port 7001
@@ -18,21 +18,21 @@ import time
 from pathlib import Path
 
 sys.path.insert(0, str(Path(__file__).resolve().parents[2] / "checks"))
-import plain_model  # noqa: E402
+import reference_model  # noqa: E402
 
 
 def told(name, usual="0"):
     return float(os.environ.get(name, usual))
 
 
-class Entry(plain_model.Entry):
+class Entry(reference_model.Entry):
     """An entry that can die for want of memory, too."""
 
     def is_dead(self):
         return self.outcome == "MEMORY" or super().is_dead()
 
 
-class Machine(plain_model.Session):
+class Machine(reference_model.Session):
     """The machine, whose results are pending for some time where other clients look at it."""
 
     def __init__(self, is_shared):
@@ -76,7 +76,7 @@ class Machine(plain_model.Session):
         with self.lock:
             if word == os.environ.get("FAKE_STARVED"):
                 self.starved.add(words[0])
-            return plain_model.answer(self, word, words, payload)
+            return reference_model.answer(self, word, words, payload)
 
 
 def request(source):
@@ -84,15 +84,15 @@ def request(source):
     line = source.readline(201)
     if not line:
         return None
-    plain_model.unless(line.endswith(b"\n") or len(line) > 200, 12)
-    plain_model.unless(line.endswith(b"\n"), 10)
-    word, words = plain_model.words_of(line[:-1])
+    reference_model.unless(line.endswith(b"\n") or len(line) > 200, 12)
+    reference_model.unless(line.endswith(b"\n"), 10)
+    word, words = reference_model.words_of(line[:-1])
     if word not in ("LOAD", "ELEMENT"):
         return word, words, b""
     size = int(words[-1])
-    plain_model.unless(size <= plain_model.LONGEST_PAYLOAD, 11)
+    reference_model.unless(size <= reference_model.LONGEST_PAYLOAD, 11)
     payload = source.read(size)
-    plain_model.unless(len(payload) == size, 12)
+    reference_model.unless(len(payload) == size, 12)
     return word, words, payload
 
 
@@ -114,8 +114,8 @@ def serve(machine, source, sink):
     while True:
         try:
             asked = request(source)
-        except plain_model.Refused as refused:
-            sink.write(plain_model.refusal(refused.code))
+        except reference_model.Refused as refused:
+            sink.write(reference_model.refusal(refused.code))
             sink.flush()
             return 1
         if asked is None or asked[0] == "QUIT":
@@ -126,8 +126,8 @@ def serve(machine, source, sink):
             return 1
         try:
             sink.write(machine.answered(*asked))
-        except plain_model.Refused as refused:
-            sink.write(plain_model.refusal(refused.code))
+        except reference_model.Refused as refused:
+            sink.write(reference_model.refusal(refused.code))
         sink.flush()
 
 
@@ -149,7 +149,7 @@ def listen(port, machine_of):
 
 
 def main():
-    plain_model.MOST_ENTRIES = int(told("FAKE_ENTRIES", "65536"))
+    reference_model.MOST_ENTRIES = int(told("FAKE_ENTRIES", "65536"))
     if sys.argv[1] == "listen":
         shared = Machine(True)
         listen(int(sys.argv[sys.argv.index("--port") + 1]), lambda: shared)

@@ -1,6 +1,6 @@
-"""What operators have to give, by the plain model and by rims that NumPy makes: slow, and with nothing of the package in it."""
+"""What operators have to give, by the reference model and by rims that NumPy makes: slow, and with nothing of the package in it."""
 import numpy as np
-import plain_model
+import reference_model
 
 PADS = {"reflect": "symmetric", "mirror": "reflect", "nearest": "edge", "wrap": "wrap"}
 WORDS = {"erosion": "ERODE", "dilation": "DILATE", "opening": "OPEN", "closing": "CLOSE", "gradient": "GRADIENT",
@@ -9,11 +9,11 @@ FLAT = tuple(WORDS)
 
 
 def image(array, maxval=None):
-    """The plain model's image of an array of bool, uint8 or uint16."""
+    """The reference model's image of an array of bool, uint8 or uint16."""
     height, width = array.shape
     if array.dtype == bool:
-        return plain_model.Image("BIT", width, height, 1, [int(sample) for sample in array.ravel()])
-    return plain_model.Image("GREY", width, height, maxval or int(np.iinfo(array.dtype).max), [int(sample) for sample in array.ravel()])
+        return reference_model.Image("BIT", width, height, 1, [int(sample) for sample in array.ravel()])
+    return reference_model.Image("GREY", width, height, maxval or int(np.iinfo(array.dtype).max), [int(sample) for sample in array.ravel()])
 
 
 def array(f, dtype):
@@ -23,7 +23,7 @@ def array(f, dtype):
 def made(name, samples, b, maxval=None):
     """One of the seven operators, with what lies outside left out."""
     turned = [(column, row) for row, column in b.offsets]
-    return array(plain_model.OPERATIONS[WORDS[name]][2](image(samples, maxval), turned), samples.dtype)
+    return array(reference_model.OPERATIONS[WORDS[name]][2](image(samples, maxval), turned), samples.dtype)
 
 
 def rimmed(samples, mode, cval, far=12):
@@ -36,7 +36,7 @@ def step(name, samples, offsets, mode, cval, far=12):
     """An erosion or dilation with a wide rim."""
     f = image(rimmed(samples, mode, cval, far))
     turned = [(column, row) for row, column in offsets]
-    return array(plain_model.OPERATIONS[WORDS[name]][2](f, turned), samples.dtype)[far:-far, far:-far]
+    return array(reference_model.OPERATIONS[WORDS[name]][2](f, turned), samples.dtype)[far:-far, far:-far]
 
 
 def less(upper, lower):
@@ -62,6 +62,6 @@ def made_with_rim(name, samples, b, mode, cval=0):
 def rank(samples, k, b, mode="ignore", cval=0, far=12):
     turned = [(column, row) for row, column in b.offsets]
     if mode == "ignore":
-        return array(plain_model.rank(image(samples), turned, k), samples.dtype)
+        return array(reference_model.rank(image(samples), turned, k), samples.dtype)
     f = image(rimmed(samples, mode, cval, far))
-    return array(plain_model.rank(f, turned, k), samples.dtype)[far:-far, far:-far]
+    return array(reference_model.rank(f, turned, k), samples.dtype)[far:-far, far:-far]

@@ -1,4 +1,4 @@
-"""A slow stand-in for libmorphd, with its calls, made of the plain model in checks/plain_model.py.
+"""A slow stand-in for libmorphd, with its calls, made of the reference model in checks/reference_model.py.
 
     import stand_in
     stand_in.install()          # from now on the package calls it
@@ -16,7 +16,7 @@ from pathlib import Path
 CHECKS = Path(__file__).resolve().parents[2] / "checks"
 sys.path.insert(0, str(CHECKS))
 
-import plain_model  # noqa: E402
+import reference_model  # noqa: E402
 
 from morphd import _library  # noqa: E402
 
@@ -46,10 +46,10 @@ def image(kind, width, height, maxval, address, count):
     unless(count == width * height, 11)
     samples = list(cells(TYPES[kind], address, count))
     if kind == "set":
-        return plain_model.Image("BIT", width, height, 1, [int(sample != 0) for sample in samples])
+        return reference_model.Image("BIT", width, height, 1, [int(sample != 0) for sample in samples])
     unless(maxval >= (256 if kind == "u16" else 1), 23)
     unless(all(sample <= maxval for sample in samples), 25)
-    return plain_model.Image("GREY", width, height, maxval, samples)
+    return reference_model.Image("GREY", width, height, maxval, samples)
 
 
 def element(address, count, width, height, ox, oy):
@@ -60,7 +60,7 @@ def element(address, count, width, height, ox, oy):
     pixels = cells(ctypes.c_uint8, address, count)
     offsets = [(at % width - ox, at // width - oy) for at, pixel in enumerate(pixels) if pixel]
     unless(offsets, 32)
-    return plain_model.Element(width, height, offsets)
+    return reference_model.Element(width, height, offsets)
 
 
 def put(samples, kind, address, count):
@@ -69,13 +69,13 @@ def put(samples, kind, address, count):
 
 
 def applied(operation, f, elements, number):
-    """What the plain model makes of it, or its refusal."""
+    """What the reference model makes of it, or its refusal."""
     try:
-        plain_model.check_arguments(operation, f[:4], elements, number)
-    except plain_model.Refused as refused:
+        reference_model.check_arguments(operation, f[:4], elements, number)
+    except reference_model.Refused as refused:
         raise Faulty(refused.code) from None
     numbers = [] if number is None else [number]
-    return plain_model.OPERATIONS[operation][2](f, *[b.offsets for b in elements], *numbers)
+    return reference_model.OPERATIONS[operation][2](f, *[b.offsets for b in elements], *numbers)
 
 
 def flat_made(op, k, f, b):

@@ -1,11 +1,11 @@
-"""Granulometries: volumes against the plain model, and what is told of them."""
+"""Granulometries: volumes against the reference model, and what is told of them."""
 import csv
 import math
 
 import cases
 import numpy as np
 import plain
-import plain_model
+import reference_model
 import pytest
 
 import morphd
@@ -22,7 +22,7 @@ def test_volumes():
         for shape in cases.SHAPES:
             image, b = cases.image(rng, shape, dtype), cases.footprint(rng, 3)
             turned = [(column, row) for row, column in b.offsets]
-            assert morphd.spectrum(image, b, 3).volumes.tolist() == plain_model.spectrum(plain.image(image), turned, 3)
+            assert morphd.spectrum(image, b, 3).volumes.tolist() == reference_model.spectrum(plain.image(image), turned, 3)
 
 
 def disc(width):

@@ -4,7 +4,7 @@ import subprocess
 import sys
 from pathlib import Path
 
-import plain_model
+import reference_model
 import pytest
 import quick_sets
 
@@ -30,7 +30,7 @@ def session(picture, *words, folder):
 def bars(picture, *words, folder, shown=()):
     """The bars of a picture as pairs of a range and its part in percent, and what is told beside them."""
     text, told = session(picture, *words, folder=folder)
-    out, lines = ran("curve.py", plain_model.served(text)[0], *shown)
+    out, lines = ran("curve.py", reference_model.served(text)[0], *shown)
     head, *rows = out.decode().splitlines()
     cells = [row.split() for row in rows]
     return head, [(" ".join(each[: each.index("%") - 1]), float(each[each.index("%") - 1])) for each in cells], told + lines
@@ -48,16 +48,16 @@ def spot(top, left, side, height=9, width=20, level=200):
 @pytest.fixture(autouse=True)
 def quickly(monkeypatch):
     """Sets are served row by row, as they are where the documents are checked."""
-    monkeypatch.setattr(plain_model, "erosion", quick_sets.erosion)
-    monkeypatch.setattr(plain_model, "dilation", quick_sets.dilation)
+    monkeypatch.setattr(reference_model, "erosion", quick_sets.erosion)
+    monkeypatch.setattr(reference_model, "dilation", quick_sets.dilation)
 
 
-def test_quick_sets_are_those_of_the_plain_model():
+def test_quick_sets_are_those_of_the_reference_model():
     rng = random.Random(1)
     for _ in range(300):
         width, height = rng.randrange(1, 9), rng.randrange(1, 7)
         kind, top = rng.choice((("BIT", 1), ("BIT", 1), ("GREY", 9)))
-        f = plain_model.Image(kind, width, height, top, [rng.randint(0, top) for _ in range(width * height)])
+        f = reference_model.Image(kind, width, height, top, [rng.randint(0, top) for _ in range(width * height)])
         b = [(dx, dy) for dx in range(-4, 5) for dy in range(-4, 5) if rng.random() < 0.1] or [(9, 0)]
         assert quick_sets.erosion(f, b) == quick_sets.plain_erosion(f, b)
         assert quick_sets.dilation(f, b) == quick_sets.plain_dilation(f, b)
@@ -87,17 +87,17 @@ def test_openings_by_discs(tmp_path):
     """The volumes of a picture of discs are those of its openings by discs, one by one."""
     picture = grey(spot(1, 3, 7))
     text, _ = session(picture, "--above", "99", "--shape", "disc", "--side", "3", "--sizes", "3", folder=tmp_path)
-    grains = plain_model.set_where(plain_model.image_in(picture), lambda level: level >= 99)
-    plain_model.erosion, plain_model.dilation = quick_sets.plain_erosion, quick_sets.plain_dilation
+    grains = reference_model.set_where(reference_model.image_in(picture), lambda level: level >= 99)
+    reference_model.erosion, reference_model.dilation = quick_sets.plain_erosion, quick_sets.plain_dilation
     wanted = [sum(grains.samples)]
     for radius in (1, 2, 3):
         far = range(-radius, radius + 1)
         disc = [(x, y) for y in far for x in far if x * x + y * y <= radius * radius]
-        wanted.append(sum(plain_model.opening(grains, disc).samples))
+        wanted.append(sum(reference_model.opening(grains, disc).samples))
     sys.path.insert(0, str(EXAMPLES))
     import curve
 
-    curves, found = curve.curves_and_set(plain_model.served(text)[0])
+    curves, found = curve.curves_and_set(reference_model.served(text)[0])
     assert curve.volumes(curves, "disc") == wanted and curve.pixels(found) == (20, 9, bytes(grains.samples))
 
 
@@ -125,7 +125,7 @@ def test_a_curve_alone(tmp_path):
     DISCS, grey(spot(2, 2, 5)), grey(spot(2, 2, 5, level=3000), 4095), b"P5 # levels\n3 2\n999\n" + bytes([0, 7, 1, 2, 3, 3] * 2)])
 def test_otsu(tmp_path, picture):
     """The level is told, and the session is that of this level."""
-    image = plain_model.image_in(picture)
+    image = reference_model.image_in(picture)
     level = otsu_of_counts({sample: image.samples.count(sample) for sample in image.samples})
     assert Picture.of_file(picture).counts() == {sample: image.samples.count(sample) for sample in image.samples}
     made, told = session(picture, "--above", "otsu", folder=tmp_path)
@@ -175,5 +175,5 @@ def test_the_demo_says_what_its_level_is():
     import demo
 
     assert "have level 120 or more" in demo.OWN_PICTURE and "brighter" not in (EXAMPLES / "demo.py").read_text(encoding="utf-8")
-    replies = plain_model.served((EXAMPLES / "demo.session").read_bytes())[0]
+    replies = reference_model.served((EXAMPLES / "demo.session").read_bytes())[0]
     assert b"the width of the largest octagon" in ran("curve.py", replies, "--side", "4")[0]

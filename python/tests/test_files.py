@@ -4,7 +4,7 @@ import random
 import sys
 
 import numpy as np
-import plain_model
+import reference_model
 import pytest
 
 import morphd
@@ -291,8 +291,8 @@ def read_by_the_model(payload):
     most = sys.get_int_max_str_digits()
     sys.set_int_max_str_digits(0)
     try:
-        return plain_model.image_in(payload)
-    except plain_model.Refused as refused:
+        return reference_model.image_in(payload)
+    except reference_model.Refused as refused:
         return refused.code
     finally:
         sys.set_int_max_str_digits(most)
@@ -304,7 +304,7 @@ def read_here(payload):
         made = Picture.of_file(payload)
     except Refused as refused:
         return refused.number
-    return plain_model.Image("BIT" if made.is_set else "GREY", made.width, made.height, made.maxval, sum(made.rows(), []))
+    return reference_model.Image("BIT" if made.is_set else "GREY", made.width, made.height, made.maxval, sum(made.rows(), []))
 
 
 @pytest.mark.parametrize("payload", PAYLOADS, ids=range(len(PAYLOADS)))
@@ -315,7 +315,7 @@ def test_netpbm_files_are_read_as_the_model_reads_them(payload):
         return
     made = Picture.of_file(payload)
     assert np.asarray(made).ravel().tolist() == wanted.samples
-    assert made.file() == plain_model.image_text(wanted)
+    assert made.file() == reference_model.image_text(wanted)
     assert Picture.of_file(made.file()) == made
 
 
@@ -382,7 +382,7 @@ def test_netpbm_files_are_read_as_a_session_reads_them(program):
             except Refused as refused:
                 held = refused.number
             wanted = read_here(payload)
-            assert held == (wanted if isinstance(wanted, int) else plain_model.image_text(wanted)), payload
+            assert held == (wanted if isinstance(wanted, int) else reference_model.image_text(wanted)), payload
 
 
 def test_pictures_of_arrays():
@@ -407,7 +407,7 @@ def test_samples_of_a_picture_are_as_wide_as_its_maxval(dtype, maxval):
     """And not as wide as the type of the array that it was made of."""
     array = np.array([[0, 9, 1], [3, 0, 7]], dtype)
     picture = Picture.of_array(array, maxval)
-    assert picture.file() == plain_model.image_text(plain_model.Image("GREY", 3, 2, maxval, array.ravel().tolist()))
+    assert picture.file() == reference_model.image_text(reference_model.Image("GREY", 3, 2, maxval, array.ravel().tolist()))
     made = np.asarray(picture)
     assert made.tolist() == picture.rows() == array.tolist()
     assert made.dtype == (np.uint8 if maxval < 256 else np.uint16) and picture.__array__(float).dtype == float

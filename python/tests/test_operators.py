@@ -1,8 +1,8 @@
-"""Every function against the plain model, on each type, mode and odd shape."""
+"""Every function against the reference model, on each type, mode and odd shape."""
 import cases
 import numpy as np
 import plain
-import plain_model
+import reference_model
 import pytest
 
 import morphd
@@ -75,7 +75,7 @@ def test_the_middle_of_fewer_samples_is_no_median():
 def test_thresholds():
     for image, _ in all_cases(6):
         for k in (0, 1, 3, 255, 65535):
-            same(morphd.threshold(image, k), plain.array(plain_model.set_where(plain.image(image), lambda s: s >= k), bool), k, image)
+            same(morphd.threshold(image, k), plain.array(reference_model.set_where(plain.image(image), lambda s: s >= k), bool), k, image)
     same(morphd.threshold(np.array([[3, 4]], np.uint8), 3.5), np.array([[False, True]]))
 
 
@@ -87,7 +87,7 @@ def test_hit_or_miss():
             continue
         miss = Footprint(bitmap, hit.origin)
         sides = [[(column, row) for row, column in b.offsets] for b in (hit, miss)]
-        wanted = plain.array(plain_model.OPERATIONS["HITMISS"][2](plain.image(image), *sides), image.dtype)
+        wanted = plain.array(reference_model.OPERATIONS["HITMISS"][2](plain.image(image), *sides), image.dtype)
         same(morphd.hit_or_miss(image, hit, miss), wanted, image, hit, miss)
 
 
@@ -107,8 +107,8 @@ def test_skeletons_and_what_they_restore():
         for levels in (1, 3):
             turned = [(column, row) for row, column in b.offsets]
             marks = morphd.skeleton(image, b, levels)
-            same(marks, plain.array(plain_model.skeleton(plain.image(image), turned, levels), np.uint8), levels, image, b)
-            wanted = plain_model.restoration(plain.image(marks), turned, levels)
+            same(marks, plain.array(reference_model.skeleton(plain.image(image), turned, levels), np.uint8), levels, image, b)
+            wanted = reference_model.restoration(plain.image(marks), turned, levels)
             same(morphd.restored(marks, b, levels), plain.array(wanted, bool), levels, image, b)
             same(morphd.restored(marks.astype(np.uint16), b, levels), plain.array(wanted, bool), levels, image, b)
 

@@ -3,7 +3,7 @@
 ghost use Rattle.std.specs.Prelude.{◌≡◌, length, map, IfErr, IfOk};
 ghost use Rattle.std.specs.Arc.{arc_value};
 ghost use Rattle.mw_plan.specs.Steps.{sliding};
-ghost use Rattle.mw_c_arrays.specs.Sources.{IsSource, picture_in};
+ghost use Rattle.mw_c_arrays.specs.Sources.{IsArrayImage, picture_in};
 ghost use Rattle.mw_c_strips.specs.Rows.{AreRows, rows_from};
 
 use mw_c_strips::{ArrayImage, Element, ExtremumKind, NoMemory, Sample};
@@ -19,7 +19,7 @@ pub fn slide_rows_into<P: Sample>(
     first: u32,
     out: &mut [P],
 ) -> Result<(), NoMemory>
-    requires sound { IsSource f }
+    requires sound { IsArrayImage f }
     requires rows { AreRows first (length out.old) (picture_in f) }
     requires stands { P.stands (picture_in f).maxval }
     ensures made { IfOk result (λ _. map P.level out.new ≡ rows_from first (length out.old) (sliding extremum (arc_value b.now).offsets (picture_in f.entry))) }

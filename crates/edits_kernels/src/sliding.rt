@@ -1,7 +1,7 @@
 //! Of `mw_line` and `mw_offset`.
 
 ghost use Rattle.std.specs.Prelude.{◌≡◌, ℕ, ◌≤◌, All, IfOk};
-ghost use Rattle.mw_model.specs.Places.{box_offsets};
+ghost use Rattle.mw_model.specs.Rectangles.{box_offsets};
 ghost use Rattle.mw_model.specs.Rasters.{Raster, cell_at};
 ghost use Rattle.mw_model.specs.Windows.{seen_at};
 ghost use Rattle.mw_tile.specs.Windows.{IsWindow};

@@ -1,7 +1,7 @@
 //! Of `mw_grid`.
 
 ghost use Rattle.std.specs.Prelude.{◌≡◌, ◌<◌};
-ghost use Rattle.mw_model.specs.Places.{IsWithin};
+ghost use Rattle.mw_model.specs.Rectangles.{IsWithin};
 ghost use Rattle.mw_grid.specs.Grids.{tile_at, tile_count};
 
 use mw_grid::Grid;

@@ -3,7 +3,7 @@
 ghost use Rattle.std.specs.Prelude.{◌≡◌, ◌↔◌};
 ghost use Rattle.mw_model.specs.Machine.{Machine};
 ghost use Rattle.mw_model.specs.Stands.{StandsFor, ready_count};
-ghost use Rattle.mw_core.specs.TaskAnswers.{Finishes, Picks, Starts, StartsBounded};
+ghost use Rattle.mw_core.specs.TaskAnswers.{AnswersFinish, Picks, Starts, StartsBounded};
 
 use mw_core::task::TileDone;
 use mw_core::{Core, Finish, Started};
@@ -28,7 +28,7 @@ pub fn start(core: &mut Core, place: u64) -> Started
 
 /// `mw_core::Core::finish`.
 pub fn finish(core: &mut Core, done: TileDone) -> Finish
-    ensures task { (m : Machine) → StandsFor core.old m → Finishes core.old m done result core.new }
+    ensures task { (m : Machine) → StandsFor core.old m → AnswersFinish core.old m done result core.new }
     ensures side { core.new.side ≡ core.old.side }
 {
     core.finish(done)

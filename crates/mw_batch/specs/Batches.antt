@@ -3,6 +3,7 @@ use Rattle.std.specs.Prelude.{◌≡◌, ◌≤◌, ◌⊎◌, ℕ, Bool, true, 
 use Rattle.std.specs.List.{concat}
 use Rattle.std.specs.Io.KnownBytes.{Appends, Consumes, IsAtEnd}
 use Rattle.mw_model.specs.declared.calls.LogItem.{LogItem}
+use Rattle.mw_model.specs.declared.limits.TheConstants.{READ_LIMIT}
 use Rattle.mw_model.specs.declared.requests.End.{End}
 use Rattle.mw_model.specs.declared.requests.End.TheVariants as end
 use Rattle.mw_model.specs.Machine.{Machine, start_state}
@@ -18,7 +19,7 @@ use Rattle.mw_batch.specs.EndLines.{end_line}
 use Rattle.mw_batch.specs.Strict.{strict_status}
 
 -- What is seen of the ends of a session: what is known of what the reader has left, how often it was read and whether it failed; what is known of what the writer holds, and whether it failed; what is known of what the writer of faults holds, and whether it failed.
-pub record Ends : Type 0 where
+pub record SessionEnds : Type 0 where
   pub left : Option (List ℕ)
   pub reads : ℕ
   pub read_failed : Bool
@@ -34,36 +35,36 @@ end_status (Ok (end.Ended c)) = 1
 end_status (Err f) = 1
 
 -- the reader failed or was read as often as it may be, or the writer failed
-abbrev pub HasFailed : Ends → SessionFault → Type 0
-HasFailed e fault.Read = (e.read_failed ≡ true) ⊎ (e.reads ≡ 4294967295)
+abbrev pub HasFailed : SessionEnds → SessionFault → Type 0
+HasFailed e fault.Read = (e.read_failed ≡ true) ⊎ (e.reads ≡ READ_LIMIT)
 HasFailed e fault.Write = e.write_failed ≡ true
 
 -- These turns, from the start of the machine, write this text for the bytes and come to this: the text is the whole script, or a front of it and an end has failed.
-abbrev pub ComesTo : Ends → List ℕ → List Turn → Machine → List ℕ → Result End SessionFault → Type 0
+abbrev pub ComesTo : SessionEnds → List ℕ → List Turn → Machine → List ℕ → Result End SessionFault → Type 0
 ComesTo new bytes turns m text (Ok e) = IsScript (IsAtEnd new.left) bytes turns start_state m text e
 ComesTo new bytes turns m text (Err f) = IsBroken (IsAtEnd new.left) bytes turns start_state m text × HasFailed new f
 
 -- nothing was told of a fault
-abbrev pub TellsNothing : Ends → Ends → Type 0
+abbrev pub TellsNothing : SessionEnds → SessionEnds → Type 0
 TellsNothing old new = (new.told ≡ old.told) × (new.tell_failed ≡ old.tell_failed)
 
 -- exactly this was told of a fault; or less of it, where the writer of faults failed
-abbrev pub TellsLine : Ends → Ends → List ℕ → Type 0
-TellsLine old new line =
+abbrev pub TellsFaultLine : SessionEnds → SessionEnds → List ℕ → Type 0
+TellsFaultLine old new line =
     (Appends old.told new.told line × (new.tell_failed ≡ old.tell_failed)) ⊎ (CutsShort old.told new.told line × (new.tell_failed ≡ true))
 
 -- The line of the fault was told. Where a refusal ended the session, it was told in which line behind these turns, and why; and nothing where it ended otherwise.
-abbrev pub TellsOutcome : Ends → Ends → List Turn → Result End SessionFault → Type 0
+abbrev pub TellsOutcome : SessionEnds → SessionEnds → List Turn → Result End SessionFault → Type 0
 TellsOutcome old new turns (Ok end.Quit) = TellsNothing old new
-TellsOutcome old new turns (Ok (end.Ended c)) = TellsLine old new (end_line (line_behind turns) c)
-TellsOutcome old new turns (Err f) = TellsLine old new (fault_line f)
+TellsOutcome old new turns (Ok (end.Ended c)) = TellsFaultLine old new (end_line (line_behind turns) c)
+TellsOutcome old new turns (Err f) = TellsFaultLine old new (fault_line f)
 
 -- the line that tells that there was no memory to begin with
 abbrev pub memory_line : List ℕ
 memory_line = codes "error: memory\n"
 
 -- A session was served: these bytes were read and this text was written, and what it came to gives the status. How it ran from the start of the machine, and where it stopped, the session says.
-pub record Served (old new : Ends) (status : ℕ) : Type 0 where
+pub record Served (old new : SessionEnds) (status : ℕ) : Type 0 where
   pub bytes : List ℕ
   pub text : List ℕ
   pub turns : List Turn
@@ -76,7 +77,7 @@ pub record Served (old new : Ends) (status : ℕ) : Type 0 where
   pub ran : Ran (LacksRoom bytes) new.left bytes start_state state [] log old.written new.written outcome
   pub told : TellsOutcome old new turns outcome
   pub tells : status ≡ end_status outcome
-  pub few_reads : new.reads ≤ 4294967295
+  pub few_reads : new.reads ≤ READ_LIMIT
   pub reader_failed : new.read_failed ≡ true → outcome ≡ Err fault.Read
   pub writer_failed : new.write_failed ≡ true → outcome ≡ Err fault.Write
 
@@ -88,13 +89,13 @@ pub record HasReplied (turns : List Turn) (state : Machine) (text : List ℕ) (r
   pub told : refused ≡ has_refusal replies
 
 -- A session was served as a batch serves it; the status is that of a batch, and 3 in the place of 0 where one of the replies is a refusal.
-abbrev pub ServedStrictly : Ends → Ends → ℕ → Type 0
+abbrev pub ServedStrictly : SessionEnds → SessionEnds → ℕ → Type 0
 ServedStrictly old new status =
     (plain : ℕ) × (served : Served old new plain) × (refused : Bool) × (plain ≡ 0 → HasReplied served.turns served.state served.text refused) × (status ≡ strict_status plain refused)
 
 -- There was no memory to begin: nothing was read or written.
-pub record Unserved (old new : Ends) (status : ℕ) : Type 0 where
+pub record Unserved (old new : SessionEnds) (status : ℕ) : Type 0 where
   pub unread : (new.left ≡ old.left) × (new.reads ≡ old.reads) × (new.read_failed ≡ old.read_failed)
   pub unwritten : (new.written ≡ old.written) × (new.write_failed ≡ old.write_failed)
-  pub told : TellsLine old new memory_line
+  pub told : TellsFaultLine old new memory_line
   pub failed : status ≡ 1

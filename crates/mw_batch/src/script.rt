@@ -4,7 +4,8 @@ ghost use Rattle.std.specs.Prelude.{◌≡◌, ◌⊎◌, [], false};
 ghost use Rattle.mw_model.specs.Machine.{start_state};
 ghost use Rattle.mw_model.specs.Stands.{StandsFor, running_count};
 ghost use Rattle.mw_grid.specs.Grids.{IsTileSide};
-ghost use Rattle.mw_batch.specs.Batches.{Ends, HasReplied, Served, ServedStrictly, Unserved};
+ghost use Rattle.mw_session.specs.mw_wire.Failures.{IsUnread};
+ghost use Rattle.mw_batch.specs.Batches.{HasReplied, Served, ServedStrictly, SessionEnds, Unserved};
 
 use crate::told::{end_line, strict_status};
 use mw_session::wire::{Sink, Source, send, tell};
@@ -33,16 +34,15 @@ fn run_on<R: Read, W: Write, F: Write, T: Threads + Sync>(
     faults: &mut Sink<F>,
     tally: &mut Tally,
 ) -> u8
-    requires source_clear { source.old.failed ≡ false }
+    requires source_fresh { IsUnread source.old.failed source.old.reads }
     requires sink_clear { sink.old.failed ≡ false }
-    requires unread { source.old.reads ≡ 0 }
     requires stands { StandsFor tally.old.core start_state }
     requires idle { running_count tally.old.core ≡ 0 }
     requires log { tally.old.core.log ≡ [] }
     requires first { tally.old.line ≡ 1 }
     requires clear { tally.old.refused ≡ false }
-    ensures { let old : Ends = record { left = R.remaining source.old.inner; reads = source.old.reads; read_failed = source.old.failed; written = W.contents sink.old.inner; write_failed = sink.old.failed; told = F.contents faults.old.inner; tell_failed = faults.old.failed } in
-        let new : Ends = record { left = R.remaining source.new.inner; reads = source.new.reads; read_failed = source.new.failed; written = W.contents sink.new.inner; write_failed = sink.new.failed; told = F.contents faults.new.inner; tell_failed = faults.new.failed } in
+    ensures { let old : SessionEnds = record { left = R.remaining source.old.inner; reads = source.old.reads; read_failed = source.old.failed; written = W.contents sink.old.inner; write_failed = sink.old.failed; told = F.contents faults.old.inner; tell_failed = faults.old.failed } in
+        let new : SessionEnds = record { left = R.remaining source.new.inner; reads = source.new.reads; read_failed = source.new.failed; written = W.contents sink.new.inner; write_failed = sink.new.failed; told = F.contents faults.new.inner; tell_failed = faults.new.failed } in
         (served : Served old new result) × (result ≡ 0 → HasReplied served.turns served.state served.text tally.new.refused) }
 {
     match run_counted(crew, source, sink, tally, &mut First) {
@@ -70,11 +70,10 @@ pub fn batch<R: Read, W: Write, F: Write, T: Threads + Sync>(
     side: u32,
 ) -> u8
     requires side { IsTileSide side }
-    requires source_clear { source.old.failed ≡ false }
+    requires source_fresh { IsUnread source.old.failed source.old.reads }
     requires sink_clear { sink.old.failed ≡ false }
-    requires unread { source.old.reads ≡ 0 }
-    ensures { let old : Ends = record { left = R.remaining source.old.inner; reads = source.old.reads; read_failed = source.old.failed; written = W.contents sink.old.inner; write_failed = sink.old.failed; told = F.contents faults.old.inner; tell_failed = faults.old.failed } in
-        let new : Ends = record { left = R.remaining source.new.inner; reads = source.new.reads; read_failed = source.new.failed; written = W.contents sink.new.inner; write_failed = sink.new.failed; told = F.contents faults.new.inner; tell_failed = faults.new.failed } in
+    ensures { let old : SessionEnds = record { left = R.remaining source.old.inner; reads = source.old.reads; read_failed = source.old.failed; written = W.contents sink.old.inner; write_failed = sink.old.failed; told = F.contents faults.old.inner; tell_failed = faults.old.failed } in
+        let new : SessionEnds = record { left = R.remaining source.new.inner; reads = source.new.reads; read_failed = source.new.failed; written = W.contents sink.new.inner; write_failed = sink.new.failed; told = F.contents faults.new.inner; tell_failed = faults.new.failed } in
         Served old new result ⊎ Unserved old new result }
 {
     let Ok(core) = Core::new(crew.alloc, side) else {
@@ -93,11 +92,10 @@ pub fn strict_batch<R: Read, W: Write, F: Write, T: Threads + Sync>(
     side: u32,
 ) -> u8
     requires side { IsTileSide side }
-    requires source_clear { source.old.failed ≡ false }
+    requires source_fresh { IsUnread source.old.failed source.old.reads }
     requires sink_clear { sink.old.failed ≡ false }
-    requires unread { source.old.reads ≡ 0 }
-    ensures { let old : Ends = record { left = R.remaining source.old.inner; reads = source.old.reads; read_failed = source.old.failed; written = W.contents sink.old.inner; write_failed = sink.old.failed; told = F.contents faults.old.inner; tell_failed = faults.old.failed } in
-        let new : Ends = record { left = R.remaining source.new.inner; reads = source.new.reads; read_failed = source.new.failed; written = W.contents sink.new.inner; write_failed = sink.new.failed; told = F.contents faults.new.inner; tell_failed = faults.new.failed } in
+    ensures { let old : SessionEnds = record { left = R.remaining source.old.inner; reads = source.old.reads; read_failed = source.old.failed; written = W.contents sink.old.inner; write_failed = sink.old.failed; told = F.contents faults.old.inner; tell_failed = faults.old.failed } in
+        let new : SessionEnds = record { left = R.remaining source.new.inner; reads = source.new.reads; read_failed = source.new.failed; written = W.contents sink.new.inner; write_failed = sink.new.failed; told = F.contents faults.new.inner; tell_failed = faults.new.failed } in
         ServedStrictly old new result ⊎ Unserved old new result }
 {
     let Ok(core) = Core::new(crew.alloc, side) else {

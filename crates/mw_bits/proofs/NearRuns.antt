@@ -4,16 +4,16 @@ use Rattle.std.specs.List.{AllByRecursion}
 use Rattle.std.proofs.lemmas.Int.{ints}
 use Rattle.std.proofs.lemmas.List.{take_more}
 use Rattle.mw_model.proofs.mw_facts.Alls.{all-weaker, all-push}
-use Rattle.mw_model.specs.Places.{nonnegative}
+use Rattle.mw_model.specs.Rectangles.{nonnegative}
 use Rattle.mw_model.proofs.Nonnegative.{nonnegative_is}
 use Rattle.mw_offset.specs.mw_element_runs.declared.runs.Run.{Run}
 use Rattle.mw_offset.specs.mw_element_runs.declared.runs.Extent.{Extent}
-use Rattle.mw_offset.specs.mw_element_runs.Runs.{IsInside, IsWider}
+use Rattle.mw_offset.specs.mw_element_runs.Runs.{IsWider, RunIsInside}
 use Rattle.mw_offset.proofs.mw_element_runs.RunLists.{inside_wider}
-use Rattle.mw_bits.specs.Layouts.{IsNear}
+use Rattle.mw_bits.specs.Layouts.{ExtentIsNear}
 
 -- no run in an extent is longer than its columns
-count_of_inside : (e : Extent) (columns : ℕ) → columns ≡ nonnegative (e.right -ℤ e.left) → (r : Run) → IsInside e r → r.count ≤ columns + 1
+count_of_inside : (e : Extent) (columns : ℕ) → columns ≡ nonnegative (e.right -ℤ e.left) → (r : Run) → RunIsInside e r → r.count ≤ columns + 1
 count_of_inside e columns columns-is r inside =
     let is = nonnegative_is (e.right -ℤ e.left) in
     let left = inside.left in
@@ -21,13 +21,13 @@ count_of_inside e columns columns-is r inside =
     let some = inside.run.some in
     omega (arith, ints)
 
-pub counts_of_inside : (e : Extent) (columns : ℕ) (runs : List Run) → columns ≡ nonnegative (e.right -ℤ e.left) → AllByRecursion (IsInside e) runs → AllByRecursion (λ (r : Run). r.count ≤ columns + 1) runs
-counts_of_inside e columns runs columns-is all = all-weaker (IsInside e) (λ (r : Run). r.count ≤ columns + 1) runs (count_of_inside e columns columns-is) all
+pub counts_of_inside : (e : Extent) (columns : ℕ) (runs : List Run) → columns ≡ nonnegative (e.right -ℤ e.left) → AllByRecursion (RunIsInside e) runs → AllByRecursion (λ (r : Run). r.count ≤ columns + 1) runs
+counts_of_inside e columns runs columns-is all = all-weaker (RunIsInside e) (λ (r : Run). r.count ≤ columns + 1) runs (count_of_inside e columns columns-is) all
 
-pub all_inside_wider : (e o : Extent) (runs : List Run) → IsWider e o → AllByRecursion (IsInside o) runs → AllByRecursion (IsInside e) runs
-all_inside_wider e o runs wider all = all-weaker (IsInside o) (IsInside e) runs (inside_wider e o wider) all
+pub all_inside_wider : (e o : Extent) (runs : List Run) → IsWider e o → AllByRecursion (RunIsInside o) runs → AllByRecursion (RunIsInside e) runs
+all_inside_wider e o runs wider all = all-weaker (RunIsInside o) (RunIsInside e) runs (inside_wider e o wider) all
 
-pub columns_few : (e : Extent) (columns : ℕ) → columns ≡ nonnegative (e.right -ℤ e.left) → IsNear e → columns ≤ 1023
+pub columns_few : (e : Extent) (columns : ℕ) → columns ≡ nonnegative (e.right -ℤ e.left) → ExtentIsNear e → columns ≤ 1023
 columns_few e columns columns-is near =
     let is = nonnegative_is (e.right -ℤ e.left) in
     let few = near.columns.few in

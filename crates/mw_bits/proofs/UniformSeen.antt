@@ -9,10 +9,10 @@ use Rattle.std.proofs.lemmas.Simd.{get_or-replicate}
 use Rattle.std.proofs.lemmas.Nat.{mul-add-lt, div_below, div-add-mod', mod_below}
 use Rattle.std.proofs.lemmas.Option.{slice_get-get_or}
 use Rattle.mw_model.proofs.mw_facts.Numbers.{factor-positive}
-use Rattle.mw_model.specs.declared.places.Offset.{Offset}
-use Rattle.mw_model.specs.declared.places.OffsetBox.{OffsetBox}
-use Rattle.mw_model.specs.declared.places.Rect.{Rect}
-use Rattle.mw_model.specs.Places.{span, box_offsets}
+use Rattle.mw_model.specs.declared.offsets.Offset.{Offset}
+use Rattle.mw_model.specs.declared.offsets.OffsetBox.{OffsetBox}
+use Rattle.mw_model.specs.declared.offsets.Rect.{Rect}
+use Rattle.mw_model.specs.Rectangles.{span, box_offsets}
 use Rattle.mw_model.proofs.Nonnegative.{nonnegative_is}
 use Rattle.mw_model.specs.Rasters.{Raster, raster, cell_at, Sight, seen_under}
 use Rattle.mw_model.specs.Windows.{View, seen_at}
@@ -21,7 +21,7 @@ use Rattle.mw_offset.proofs.mw_line.Tiles.{tile_made}
 use Rattle.mw_offset.specs.mw_element_runs.Runs.{offset_at}
 use Rattle.mw_offset.specs.mw_pixel_words.Packed.{bit_of, stride_of, samples_of}
 use Rattle.mw_offset.proofs.mw_pixel_words.Bits.{sample_is_bit, length-samples_of}
-use Rattle.mw_bits.specs.Uniform.{HasOnly, Stays}
+use Rattle.mw_bits.specs.Uniform.{HasOnly, TileStays}
 
 -- samples that are one, place by place
 pub only_by_rows : (v w h : ℕ) (cells : List ℕ) → length cells ≡ h * w → ((x y : ℕ) → x < w → y < h → get_or cells (y * w + x) 0 ≡ v) → HasOnly v cells
@@ -90,7 +90,7 @@ uniform_neutral f n v w element x y again same only size =
 
 -- some offset keeps the tile in the window
 pub uniform_seen : (f : ℕ → ℕ → ℕ) (n v : ℕ) (w : View ℕ) (element : List Offset) (tile place : Rect) (k x y : ℕ) → f n v ≡ v → f v v ≡ v → HasOnly v w.cells → length w.cells ≡ w.place.height * w.place.width → place ≡ w.place
-    → k < length element → Stays tile (offset_at element k).dx (offset_at element k).dy place → x < tile.width → y < tile.height → fold f n (seen_under (seen_at w) element (tile.x + x) (tile.y + y)) ≡ v
+    → k < length element → TileStays tile (offset_at element k).dx (offset_at element k).dy place → x < tile.width → y < tile.height → fold f n (seen_under (seen_at w) element (tile.x + x) (tile.y + y)) ≡ v
 uniform_seen f n v w element tile place k x y first again only size place-is lt stays less row_less =
     let none : Offset = record { dx = pos 0; dy = pos 0 } in
     let b = offset_at element k in
@@ -142,9 +142,9 @@ box_first box across down =
 
 -- a box whose first offset keeps the tile in the window
 pub uniform_boxed : (f : ℕ → ℕ → ℕ) (n v : ℕ) (w : View ℕ) (box : OffsetBox) (tile place : Rect) (dx dy : ℤ) (x y : ℕ) → f n v ≡ v → f v v ≡ v → HasOnly v w.cells → length w.cells ≡ w.place.height * w.place.width → place ≡ w.place
-    → dx ≡ box.x0 → dy ≡ box.y0 → box.x0 ≤ℤ box.x1 → box.y0 ≤ℤ box.y1 → Stays tile dx dy place → x < tile.width → y < tile.height
+    → dx ≡ box.x0 → dy ≡ box.y0 → box.x0 ≤ℤ box.x1 → box.y0 ≤ℤ box.y1 → TileStays tile dx dy place → x < tile.width → y < tile.height
     → fold f n (seen_under (seen_at w) (box_offsets box) (tile.x + x) (tile.y + y)) ≡ v
 uniform_boxed f n v w box tile place dx dy x y first again only size place-is dx-is dy-is across down stays less row_less =
     let here = box_first box across down in
     uniform_seen f n v w (box_offsets box) tile place 0 x y first again only size place-is here.some
-    (subst (λ (t : ℤ). Stays tile t (offset_at (box_offsets box) 0).dy place) (dx-is ∙ sym here.dx) (subst (λ (t : ℤ). Stays tile dx t place) (dy-is ∙ sym here.dy) stays)) less row_less
+    (subst (λ (t : ℤ). TileStays tile t (offset_at (box_offsets box) 0).dy place) (dx-is ∙ sym here.dx) (subst (λ (t : ℤ). TileStays tile dx t place) (dy-is ∙ sym here.dy) stays)) less row_less

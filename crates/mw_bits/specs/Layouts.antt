@@ -10,6 +10,6 @@ pub record AreNear (first last : ℤ) : Type 0 where
   pub few : last ≤ℤ (first +ℤ pos 1023)
 
 -- the element has few columns and rows near its origin
-pub record IsNear (e : Extent) : Type 0 where
+pub record ExtentIsNear (e : Extent) : Type 0 where
   pub columns : AreNear e.left e.right
   pub rows : AreNear e.top e.bottom

@@ -1,7 +1,7 @@
 -- Windows of one pixel throughout.
 use Rattle.std.specs.Prelude.{◌≡◌, ℕ, ◌+◌, ◌<◌, ℤ, pos, ◌+ℤ◌, ◌≤ℤ◌, List, length, slice_index}
-use Rattle.mw_model.specs.declared.places.Offset.{Offset}
-use Rattle.mw_model.specs.declared.places.Rect.{Rect}
+use Rattle.mw_model.specs.declared.offsets.Offset.{Offset}
+use Rattle.mw_model.specs.declared.offsets.Rect.{Rect}
 use Rattle.mw_offset.specs.mw_element_runs.Runs.{offset_at}
 
 -- all samples are v
@@ -14,10 +14,10 @@ pub record SideStays (tile side : ℕ) (step : ℤ) (first count : ℕ) : Type 0
   pub to : (pos (tile + side) +ℤ step) ≤ℤ pos (first + count)
 
 -- the tile, moved by a step, is a part of the rectangle
-pub record Stays (tile : Rect) (dx dy : ℤ) (place : Rect) : Type 0 where
+pub record TileStays (tile : Rect) (dx dy : ℤ) (place : Rect) : Type 0 where
   pub across : SideStays tile.x tile.width dx place.x place.width
   pub down : SideStays tile.y tile.height dy place.y place.height
 
 -- some offset of the list moves the tile so
 abbrev pub SomeStays : Rect → List Offset → Rect → Type 0
-SomeStays tile offsets place = (k : ℕ) × (k < length offsets) × Stays tile (offset_at offsets k).dx (offset_at offsets k).dy place
+SomeStays tile offsets place = (k : ℕ) × (k < length offsets) × TileStays tile (offset_at offsets k).dx (offset_at offsets k).dy place

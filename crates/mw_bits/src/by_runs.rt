@@ -4,17 +4,17 @@
 //! last pixels; and since all rows have as many words, each merge takes all rows of the tile at once, and two merges one pass.
 ghost use Rattle.std.specs.Prelude.{◌≡◌, ℕ, ◌+◌, ◌-◌, ◌*◌, ◌/◌, ◌<◌, ◌≤◌, ◌^◌, ℤ, pos, negsuc, ◌+ℤ◌, ◌-ℤ◌, ◌≤ℤ◌, length, fold, flat_map, slice_index_or, vec_len, IfOk, IfSome, IsTrue};
 ghost use Rattle.std.specs.List.{AllByRecursion};
-ghost use Rattle.mw_model.specs.Places.{nonnegative};
+ghost use Rattle.mw_model.specs.Rectangles.{nonnegative};
 ghost use Rattle.mw_model.specs.Rasters.{seen_under};
 ghost use Rattle.mw_model.specs.Windows.{seen_at};
 ghost use Rattle.mw_offset.specs.mw_line.Extrema.{strided};
 ghost use Rattle.mw_offset.specs.mw_element_runs.declared.runs.Run.{Run};
-ghost use Rattle.mw_offset.specs.mw_element_runs.Runs.{run_offsets, start_of, IsInside, IsWider, HasRoom, two_parts, gather};
-ghost use Rattle.mw_offset.specs.Places.{sized_below};
+ghost use Rattle.mw_offset.specs.mw_element_runs.Runs.{run_offsets, start_of, RunIsInside, IsWider, RunHasRoom, two_parts, gather};
+ghost use Rattle.mw_offset.specs.MergedAt.{sized_below};
 ghost use Rattle.mw_offset.specs.mw_pixel_words.Packed.{bit_of, stride_of, IsPacked};
 ghost use Rattle.mw_bits_rows.specs.Rows.{laid_bits};
 ghost use Rattle.mw_bits.specs.Waiting.{with_waiting};
-ghost use Rattle.mw_bits.specs.Layouts.{AreNear, IsNear};
+ghost use Rattle.mw_bits.specs.Layouts.{AreNear, ExtentIsNear};
 
 use crate::WordExtremum;
 use crate::sizes::{longest_of, next_size};
@@ -98,7 +98,7 @@ fn combine_sized<E: WordExtremum>(
     cells: &[u64],
     out: &mut [u64],
 )
-    requires room { AllByRecursion (HasRoom laid.extent laid.wide (64 * length out.old) (64 * (length cells.now - 1))) runs.now }
+    requires room { AllByRecursion (RunHasRoom laid.extent laid.wide (64 * length out.old) (64 * (length cells.now - 1))) runs.now }
     requires positive { 0 < sizes.least }
     requires some { 0 < length cells.now }
     requires few { length cells.now < 2 ^ 58 }
@@ -124,7 +124,7 @@ fn combine_runs<E: WordExtremum>(
     cells: &mut [u64],
     out: &mut [u64],
 )
-    requires room { AllByRecursion (HasRoom laid.extent laid.wide (64 * length out.old) (64 * (length cells.old - 1))) runs.now }
+    requires room { AllByRecursion (RunHasRoom laid.extent laid.wide (64 * length out.old) (64 * (length cells.old - 1))) runs.now }
     requires longest { AllByRecursion (λ (r : Run). r.count < length counts.now) runs.now }
     requires within { length counts.now ≤ 64 * (length cells.old - 1) + 1 }
     requires some { 0 < length cells.old }
@@ -155,14 +155,14 @@ fn are_near(first: i32, last: i32) -> bool
 
 /// Whether an element has few columns and rows near its origin, so that it can be laid out around a tile.
 pub fn is_near(extent: Extent) -> bool
-    ensures { IsTrue result → IsNear extent }
+    ensures { IsTrue result → ExtentIsNear extent }
 {
     are_near(extent.left, extent.right) && are_near(extent.top, extent.bottom)
 }
 
-/// The same extent with so many words of columns after its first.
+/// The extent, widened by so many words of columns after its first.
 fn widened(extent: Extent, words: usize) -> Extent
-    requires near { IsNear extent }
+    requires near { ExtentIsNear extent }
     requires enough { nonnegative (extent.right -ℤ extent.left) ≤ 64 * words }
     requires few { words ≤ 16 }
     ensures wider { IsWider result extent }
@@ -187,10 +187,10 @@ pub(crate) fn extremum_by_runs<E: WordExtremum>(
     extent: Extent,
     tile: Rect,
 ) -> Result<Vec<u64>, NoMemory>
-    requires inside { AllByRecursion (IsInside extent) runs.now }
+    requires inside { AllByRecursion (RunIsInside extent) runs.now }
     requires some { (0 < tile.width) × (0 < tile.height) }
     requires small { (tile.width ≤ 2 ^ 31) × (tile.height ≤ 2 ^ 31) }
-    requires near { IsNear extent }
+    requires near { ExtentIsNear extent }
     ensures packed { IfOk result (λ v. IsPacked tile.width tile.height v.items) }
     ensures cells { IfOk result (λ v. (x y : ℕ) → x < tile.width → y < tile.height → bit_of v.items (y * (64 * stride_of tile.width) + x) ≡ fold E.merge (E.neutral_of 1) (seen_under (seen_at set.now) (flat_map run_offsets runs.now) (tile.x + x) (tile.y + y))) }
 {

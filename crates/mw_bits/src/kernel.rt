@@ -115,7 +115,7 @@ pub fn extremum_of_runs<E: WordExtremum>(
     Ok(plane_of(tile.width, tile.height, words))
 }
 
-/// The same where the offsets have to be cut into runs first.
+/// What `extremum_of_runs` makes, where the offsets have to be cut into runs first.
 pub fn extremum<E: WordExtremum>(
     alloc: Global,
     set: &Window<Bit>,

@@ -4,12 +4,12 @@ ghost use Rattle.std.specs.Prelude.{◌≡◌, ◌↔◌, ℕ, ◌+◌, ◌*◌,
 ghost use Rattle.std.specs.Int.{bit_at};
 ghost use Rattle.std.specs.List.{AllByRecursion};
 ghost use Rattle.mw_model.specs.declared.limits.TheConstants.{FAR_LIMIT};
-ghost use Rattle.mw_model.specs.Places.{box_offsets};
+ghost use Rattle.mw_model.specs.Rectangles.{box_offsets};
 ghost use Rattle.mw_model.specs.Rasters.{seen_under};
 ghost use Rattle.mw_model.specs.Windows.{seen_at};
 ghost use Rattle.mw_offset.specs.mw_element_runs.Runs.{run_offsets, AreEitherWay, IsRun};
 ghost use Rattle.mw_offset.specs.mw_pixel_words.Packed.{bit_of, stride_of};
-ghost use Rattle.mw_bits.specs.Uniform.{HasOnly, SideStays, Stays, SomeStays};
+ghost use Rattle.mw_bits.specs.Uniform.{HasOnly, SideStays, TileStays, SomeStays};
 
 use crate::WordExtremum;
 use crate::held::{row_of, words_of};
@@ -125,7 +125,7 @@ fn side_stays(tile: u32, side: u32, step: i32, first: u32, count: u32) -> bool
 
 /// Whether a step to the right and down moves the tile to a part of the window.
 fn stays(tile: Rect, dx: i32, dy: i32, place: Rect) -> bool
-    ensures { IsTrue result → Stays tile dx dy place }
+    ensures { IsTrue result → TileStays tile dx dy place }
 {
     side_stays(tile.x, tile.width, dx, place.x, place.width)
         && side_stays(tile.y, tile.height, dy, place.y, place.height)
@@ -141,7 +141,7 @@ fn columns_past(tile: u32, step: i16, first: u32) -> u64 {
 /// on the left.
 fn run_stays(tile: Rect, run: Run, place: Rect) -> bool
     requires { IsRun run }
-    ensures { IsTrue result → (i : ℕ) × (i < run.count) × Stays tile (run.dx +ℤ pos i) run.dy place }
+    ensures { IsTrue result → (i : ℕ) × (i < run.count) × TileStays tile (run.dx +ℤ pos i) run.dy place }
 {
     let passed = columns_past(tile.x, run.dx, place.x);
     if passed >= u64::from(run.count) {
@@ -188,7 +188,7 @@ pub(crate) fn settled<E: WordExtremum>(
     None
 }
 
-/// The same under a box, whose first offset is looked at alone.
+/// The pixel that `settled` finds, under a box, whose first offset is looked at alone.
 pub(crate) fn settled_box<E: WordExtremum>(
     set: &Window<Bit>,
     offsets: OffsetBox,

@@ -2,10 +2,10 @@
 
 ghost use Rattle.std.specs.Prelude.{◌≡◌, ◌≢◌, pos, length};
 ghost use Rattle.mw_model.specs.declared.limits.TheConstants.{LEVEL_LIMIT};
-ghost use Rattle.mw_c_arrays.specs.Arrays.{element_of, grey_of, set_of};
-ghost use Rattle.mw_c_arrays.specs.Faults.{element_fault, levels_fault, pixels_fault};
-ghost use Rattle.mw_c_calls.specs.Answers.{IsAnswer};
-ghost use Rattle.mw_c_calls.specs.Calls.{call_fault, flat_asks, flat_of, operation_case, room_case};
+ghost use Rattle.mw_c_arrays.specs.Arrays.{element_in_bytes, grey_in_array, set_in_bytes};
+ghost use Rattle.mw_c_arrays.specs.Faults.{levels_fault, pixels_fault};
+ghost use Rattle.mw_c_calls.specs.CallAnswers.{IsFlatAnswer};
+ghost use Rattle.mw_c_calls.specs.Calls.{flat_of, room_case};
 
 use mw_c_calls::{flat_set, flat_u8, flat_u16};
 use std::alloc::Global;
@@ -27,9 +27,9 @@ pub extern "C" fn morphd_flat_u8(
     element_y: u32,
     out: &mut [u8],
 ) -> i32
-    ensures made { result ≡ pos 0 → out.new ≡ (flat_of operation k (element_of element_width element_height element_x element_y element.now) (grey_of width height maxval samples.now)).samples }
+    ensures made { result ≡ pos 0 → out.new ≡ (flat_of operation k (element_in_bytes element_width element_height element_x element_y element.now) (grey_in_array width height maxval samples.now)).samples }
     ensures kept { result ≢ pos 0 → out.new ≡ out.old }
-    ensures first { IsAnswer (call_fault (operation_case operation) (levels_fault 1 255 width height maxval samples.now) (room_case (length out.old) (length samples.now)) (element_fault element_width element_height element_x element_y element.now)) (flat_asks operation k (element_of element_width element_height element_x element_y element.now)) result }
+    ensures first { IsFlatAnswer operation k (levels_fault 1 255 width height maxval samples.now) (room_case (length out.old) (length samples.now)) element_width element_height element_x element_y element.now result }
 {
     flat_u8(
         alloc,
@@ -65,9 +65,9 @@ pub extern "C" fn morphd_flat_u16(
     element_y: u32,
     out: &mut [u16],
 ) -> i32
-    ensures made { result ≡ pos 0 → out.new ≡ (flat_of operation k (element_of element_width element_height element_x element_y element.now) (grey_of width height maxval samples.now)).samples }
+    ensures made { result ≡ pos 0 → out.new ≡ (flat_of operation k (element_in_bytes element_width element_height element_x element_y element.now) (grey_in_array width height maxval samples.now)).samples }
     ensures kept { result ≢ pos 0 → out.new ≡ out.old }
-    ensures first { IsAnswer (call_fault (operation_case operation) (levels_fault 256 LEVEL_LIMIT width height maxval samples.now) (room_case (length out.old) (length samples.now)) (element_fault element_width element_height element_x element_y element.now)) (flat_asks operation k (element_of element_width element_height element_x element_y element.now)) result }
+    ensures first { IsFlatAnswer operation k (levels_fault 256 LEVEL_LIMIT width height maxval samples.now) (room_case (length out.old) (length samples.now)) element_width element_height element_x element_y element.now result }
 {
     flat_u16(
         alloc,
@@ -102,9 +102,9 @@ pub extern "C" fn morphd_flat_set(
     element_y: u32,
     out: &mut [u8],
 ) -> i32
-    ensures made { result ≡ pos 0 → out.new ≡ (flat_of operation k (element_of element_width element_height element_x element_y element.now) (set_of width height pixels.now)).samples }
+    ensures made { result ≡ pos 0 → out.new ≡ (flat_of operation k (element_in_bytes element_width element_height element_x element_y element.now) (set_in_bytes width height pixels.now)).samples }
     ensures kept { result ≢ pos 0 → out.new ≡ out.old }
-    ensures first { IsAnswer (call_fault (operation_case operation) (pixels_fault width height pixels.now) (room_case (length out.old) (length pixels.now)) (element_fault element_width element_height element_x element_y element.now)) (flat_asks operation k (element_of element_width element_height element_x element_y element.now)) result }
+    ensures first { IsFlatAnswer operation k (pixels_fault width height pixels.now) (room_case (length out.old) (length pixels.now)) element_width element_height element_x element_y element.now result }
 {
     flat_set(
         alloc,

@@ -3,10 +3,10 @@
 ghost use Rattle.std.specs.Prelude.{◌≡◌, ◌≢◌, pos, length};
 ghost use Rattle.mw_model.specs.Flat.{hit_or_miss};
 ghost use Rattle.mw_model.specs.declared.limits.TheConstants.{LEVEL_LIMIT};
-ghost use Rattle.mw_c_arrays.specs.Arrays.{element_of, grey_of, set_of};
-ghost use Rattle.mw_c_arrays.specs.Faults.{element_fault, levels_fault, pixels_fault};
-ghost use Rattle.mw_c_calls.specs.Answers.{IsAnswer};
-ghost use Rattle.mw_c_calls.specs.Calls.{call_fault, overlap_case, room_case};
+ghost use Rattle.mw_c_arrays.specs.Arrays.{element_in_bytes, grey_in_array, set_in_bytes};
+ghost use Rattle.mw_c_arrays.specs.Faults.{levels_fault, pixels_fault};
+ghost use Rattle.mw_c_calls.specs.CallAnswers.{IsHitsAnswer};
+ghost use Rattle.mw_c_calls.specs.Calls.{room_case};
 
 use mw_c_calls::{hit_or_miss_set, hit_or_miss_u8, hit_or_miss_u16};
 use std::alloc::Global;
@@ -31,9 +31,9 @@ pub extern "C" fn morphd_hit_or_miss_u8(
     miss_y: u32,
     out: &mut [u8],
 ) -> i32
-    ensures made { result ≡ pos 0 → out.new ≡ (hit_or_miss (element_of hit_width hit_height hit_x hit_y hit.now) (element_of miss_width miss_height miss_x miss_y miss.now) (grey_of width height maxval samples.now)).samples }
+    ensures made { result ≡ pos 0 → out.new ≡ (hit_or_miss (element_in_bytes hit_width hit_height hit_x hit_y hit.now) (element_in_bytes miss_width miss_height miss_x miss_y miss.now) (grey_in_array width height maxval samples.now)).samples }
     ensures kept { result ≢ pos 0 → out.new ≡ out.old }
-    ensures first { IsAnswer (call_fault (levels_fault 1 255 width height maxval samples.now) (room_case (length out.old) (length samples.now)) (element_fault hit_width hit_height hit_x hit_y hit.now) (element_fault miss_width miss_height miss_x miss_y miss.now)) (overlap_case (element_of hit_width hit_height hit_x hit_y hit.now) (element_of miss_width miss_height miss_x miss_y miss.now)) result }
+    ensures first { IsHitsAnswer (levels_fault 1 255 width height maxval samples.now) (room_case (length out.old) (length samples.now)) hit_width hit_height hit_x hit_y hit.now miss_width miss_height miss_x miss_y miss.now result }
 {
     hit_or_miss_u8(
         alloc,
@@ -75,9 +75,9 @@ pub extern "C" fn morphd_hit_or_miss_u16(
     miss_y: u32,
     out: &mut [u16],
 ) -> i32
-    ensures made { result ≡ pos 0 → out.new ≡ (hit_or_miss (element_of hit_width hit_height hit_x hit_y hit.now) (element_of miss_width miss_height miss_x miss_y miss.now) (grey_of width height maxval samples.now)).samples }
+    ensures made { result ≡ pos 0 → out.new ≡ (hit_or_miss (element_in_bytes hit_width hit_height hit_x hit_y hit.now) (element_in_bytes miss_width miss_height miss_x miss_y miss.now) (grey_in_array width height maxval samples.now)).samples }
     ensures kept { result ≢ pos 0 → out.new ≡ out.old }
-    ensures first { IsAnswer (call_fault (levels_fault 256 LEVEL_LIMIT width height maxval samples.now) (room_case (length out.old) (length samples.now)) (element_fault hit_width hit_height hit_x hit_y hit.now) (element_fault miss_width miss_height miss_x miss_y miss.now)) (overlap_case (element_of hit_width hit_height hit_x hit_y hit.now) (element_of miss_width miss_height miss_x miss_y miss.now)) result }
+    ensures first { IsHitsAnswer (levels_fault 256 LEVEL_LIMIT width height maxval samples.now) (room_case (length out.old) (length samples.now)) hit_width hit_height hit_x hit_y hit.now miss_width miss_height miss_x miss_y miss.now result }
 {
     hit_or_miss_u16(
         alloc,
@@ -118,9 +118,9 @@ pub extern "C" fn morphd_hit_or_miss_set(
     miss_y: u32,
     out: &mut [u8],
 ) -> i32
-    ensures made { result ≡ pos 0 → out.new ≡ (hit_or_miss (element_of hit_width hit_height hit_x hit_y hit.now) (element_of miss_width miss_height miss_x miss_y miss.now) (set_of width height pixels.now)).samples }
+    ensures made { result ≡ pos 0 → out.new ≡ (hit_or_miss (element_in_bytes hit_width hit_height hit_x hit_y hit.now) (element_in_bytes miss_width miss_height miss_x miss_y miss.now) (set_in_bytes width height pixels.now)).samples }
     ensures kept { result ≢ pos 0 → out.new ≡ out.old }
-    ensures first { IsAnswer (call_fault (pixels_fault width height pixels.now) (room_case (length out.old) (length pixels.now)) (element_fault hit_width hit_height hit_x hit_y hit.now) (element_fault miss_width miss_height miss_x miss_y miss.now)) (overlap_case (element_of hit_width hit_height hit_x hit_y hit.now) (element_of miss_width miss_height miss_x miss_y miss.now)) result }
+    ensures first { IsHitsAnswer (pixels_fault width height pixels.now) (room_case (length out.old) (length pixels.now)) hit_width hit_height hit_x hit_y hit.now miss_width miss_height miss_x miss_y miss.now result }
 {
     hit_or_miss_set(
         alloc,

@@ -1,13 +1,12 @@
 //! Volumes of granulometries of arrays.
 
-ghost use Rattle.std.specs.Prelude.{◌≡◌, ◌≢◌, ◌+◌, pos, length, None};
+ghost use Rattle.std.specs.Prelude.{◌≡◌, ◌≢◌, ◌+◌, pos, length};
 ghost use Rattle.mw_model.specs.Iterates.{spectrum};
-ghost use Rattle.mw_model.specs.Refusals.{param_case};
 ghost use Rattle.mw_model.specs.declared.limits.TheConstants.{LEVEL_LIMIT};
-ghost use Rattle.mw_c_arrays.specs.Arrays.{element_of, grey_of, set_of};
-ghost use Rattle.mw_c_arrays.specs.Faults.{element_fault, levels_fault, pixels_fault};
-ghost use Rattle.mw_c_calls.specs.Answers.{IsAnswer};
-ghost use Rattle.mw_c_calls.specs.Calls.{call_fault, room_case};
+ghost use Rattle.mw_c_arrays.specs.Arrays.{element_in_bytes, grey_in_array, set_in_bytes};
+ghost use Rattle.mw_c_arrays.specs.Faults.{levels_fault, pixels_fault};
+ghost use Rattle.mw_c_calls.specs.CallAnswers.{IsSpectrumAnswer};
+ghost use Rattle.mw_c_calls.specs.Calls.{room_case};
 
 use mw_c_calls::{spectrum_set, spectrum_u8, spectrum_u16};
 use std::alloc::Global;
@@ -28,9 +27,9 @@ pub extern "C" fn morphd_spectrum_u8(
     element_y: u32,
     out: &mut [u64],
 ) -> i32
-    ensures made { result ≡ pos 0 → out.new ≡ spectrum (element_of element_width element_height element_x element_y element.now) levels (grey_of width height maxval samples.now) }
+    ensures made { result ≡ pos 0 → out.new ≡ spectrum (element_in_bytes element_width element_height element_x element_y element.now) levels (grey_in_array width height maxval samples.now) }
     ensures kept { result ≢ pos 0 → out.new ≡ out.old }
-    ensures first { IsAnswer (call_fault (param_case 1 32 levels) (levels_fault 1 255 width height maxval samples.now) (room_case (length out.old) (levels + 1)) (element_fault element_width element_height element_x element_y element.now)) None result }
+    ensures first { IsSpectrumAnswer levels (levels_fault 1 255 width height maxval samples.now) (room_case (length out.old) (levels + 1)) element_width element_height element_x element_y element.now result }
 {
     spectrum_u8(
         alloc,
@@ -64,9 +63,9 @@ pub extern "C" fn morphd_spectrum_u16(
     element_y: u32,
     out: &mut [u64],
 ) -> i32
-    ensures made { result ≡ pos 0 → out.new ≡ spectrum (element_of element_width element_height element_x element_y element.now) levels (grey_of width height maxval samples.now) }
+    ensures made { result ≡ pos 0 → out.new ≡ spectrum (element_in_bytes element_width element_height element_x element_y element.now) levels (grey_in_array width height maxval samples.now) }
     ensures kept { result ≢ pos 0 → out.new ≡ out.old }
-    ensures first { IsAnswer (call_fault (param_case 1 32 levels) (levels_fault 256 LEVEL_LIMIT width height maxval samples.now) (room_case (length out.old) (levels + 1)) (element_fault element_width element_height element_x element_y element.now)) None result }
+    ensures first { IsSpectrumAnswer levels (levels_fault 256 LEVEL_LIMIT width height maxval samples.now) (room_case (length out.old) (levels + 1)) element_width element_height element_x element_y element.now result }
 {
     spectrum_u16(
         alloc,
@@ -99,9 +98,9 @@ pub extern "C" fn morphd_spectrum_set(
     element_y: u32,
     out: &mut [u64],
 ) -> i32
-    ensures made { result ≡ pos 0 → out.new ≡ spectrum (element_of element_width element_height element_x element_y element.now) levels (set_of width height pixels.now) }
+    ensures made { result ≡ pos 0 → out.new ≡ spectrum (element_in_bytes element_width element_height element_x element_y element.now) levels (set_in_bytes width height pixels.now) }
     ensures kept { result ≢ pos 0 → out.new ≡ out.old }
-    ensures first { IsAnswer (call_fault (param_case 1 32 levels) (pixels_fault width height pixels.now) (room_case (length out.old) (levels + 1)) (element_fault element_width element_height element_x element_y element.now)) None result }
+    ensures first { IsSpectrumAnswer levels (pixels_fault width height pixels.now) (room_case (length out.old) (levels + 1)) element_width element_height element_x element_y element.now result }
 {
     spectrum_set(
         alloc,

@@ -4,7 +4,7 @@ ghost use Rattle.std.specs.Prelude.{◌≡◌, ◌≢◌, pos, length, None};
 ghost use Rattle.mw_model.specs.Flat.{threshold};
 ghost use Rattle.mw_model.specs.Refusals.{param_case};
 ghost use Rattle.mw_model.specs.declared.limits.TheConstants.{LEVEL_LIMIT};
-ghost use Rattle.mw_c_arrays.specs.Arrays.{grey_of};
+ghost use Rattle.mw_c_arrays.specs.Arrays.{grey_in_array};
 ghost use Rattle.mw_c_arrays.specs.Faults.{levels_fault};
 ghost use Rattle.mw_c_calls.specs.Answers.{IsAnswer};
 ghost use Rattle.mw_c_calls.specs.Calls.{call_fault, room_case};
@@ -23,7 +23,7 @@ pub extern "C" fn morphd_threshold_u8(
     samples: &[u8],
     out: &mut [u8],
 ) -> i32
-    ensures made { result ≡ pos 0 → out.new ≡ (threshold k (grey_of width height maxval samples.now)).samples }
+    ensures made { result ≡ pos 0 → out.new ≡ (threshold k (grey_in_array width height maxval samples.now)).samples }
     ensures kept { result ≢ pos 0 → out.new ≡ out.old }
     ensures first { IsAnswer (call_fault (param_case 0 LEVEL_LIMIT k) (levels_fault 1 255 width height maxval samples.now) (room_case (length out.old) (length samples.now)) None) None result }
 {
@@ -41,7 +41,7 @@ pub extern "C" fn morphd_threshold_u16(
     samples: &[u16],
     out: &mut [u8],
 ) -> i32
-    ensures made { result ≡ pos 0 → out.new ≡ (threshold k (grey_of width height maxval samples.now)).samples }
+    ensures made { result ≡ pos 0 → out.new ≡ (threshold k (grey_in_array width height maxval samples.now)).samples }
     ensures kept { result ≢ pos 0 → out.new ≡ out.old }
     ensures first { IsAnswer (call_fault (param_case 0 LEVEL_LIMIT k) (levels_fault 256 LEVEL_LIMIT width height maxval samples.now) (room_case (length out.old) (length samples.now)) None) None result }
 {

@@ -8,7 +8,7 @@ use Rattle.std.proofs.lemmas.List.Elements.{All-from_get_or}
 use Rattle.std.proofs.lemmas.List.Folds.{list_any_none}
 use Rattle.mw_model.specs.declared.codes.Code.{Code}
 use Rattle.mw_model.specs.declared.codes.Code.TheVariants as code
-use Rattle.mw_model.specs.declared.places.Offset.{Offset}
+use Rattle.mw_model.specs.declared.offsets.Offset.{Offset}
 use Rattle.mw_model.specs.Bitmaps.{SidesFit}
 use Rattle.mw_model.specs.Elements.{HoldsPlace, element_side, offset_from, offsets_in_row, offsets_of}
 use Rattle.mw_model.specs.Rasters.{raster}
@@ -16,8 +16,8 @@ use Rattle.mw_model.specs.Refusals.{first_of, when}
 use Rattle.mw_model.proofs.ImagePlaces.{by_places}
 use Rattle.mw_model.proofs.mw_facts.Elements.{append-empty}
 use Rattle.mw_model.proofs.mw_facts.Finds.{cond-none}
-use Rattle.mw_c_arrays.specs.Arrays.{pixels_of}
-use Rattle.mw_c_arrays.specs.Faults.{bitmap_sides_fit, bitmap_size_case, empty_case, length_case, origin_case}
+use Rattle.mw_c_arrays.specs.Arrays.{pixels_in_bytes}
+use Rattle.mw_c_arrays.specs.Faults.{bitmap_sides_fit, bitmap_size_case, empty_case, length_case, origin_outside_case}
 use Rattle.mw_c_arrays.proofs.FirstCases.{first_of-none, when_not-none}
 
 -- lists that are empty together are empty each
@@ -55,13 +55,13 @@ unset_at width height ox oy cells none x y across down =
     cond-none (eqb (slice_index cells (y * width + x)) 1) (offset_from ox oy x y) here
 
 -- a byte that is not 0 gives an offset
-some_offset : (width height ox oy : ℕ) (bytes : List ℕ) → length bytes ≡ height * width → list_any (λ s. nat_le 1 s) bytes ≡ true → offsets_of (raster width height (pixels_of bytes)) ox oy ≡ [] → ⊥
+some_offset : (width height ox oy : ℕ) (bytes : List ℕ) → length bytes ≡ height * width → list_any (λ s. nat_le 1 s) bytes ≡ true → offsets_of (raster width height (pixels_in_bytes bytes)) ox oy ≡ [] → ⊥
 some_offset width height ox oy bytes size some none =
-    let unset = by_places (λ i. eqb (slice_index (pixels_of bytes) i) 1 ≡ false) width height (unset_at width height ox oy (pixels_of bytes) none) in
+    let unset = by_places (λ i. eqb (slice_index (pixels_in_bytes bytes) i) 1 ≡ false) width height (unset_at width height ox oy (pixels_in_bytes bytes) none) in
     let zeros = All-from_get_or (λ s. nat_le 1 s ≡ false) bytes 0 (λ i within. byte i within (unset i (omega arith))) in
     both_ways (list_any (λ s. nat_le 1 s) bytes) (list_any_none (λ s. nat_le 1 s) bytes zeros) some
   where
-    byte : (i : ℕ) → i < length bytes → eqb (slice_index (pixels_of bytes) i) 1 ≡ false → nat_le 1 (get_or bytes i 0) ≡ false
+    byte : (i : ℕ) → i < length bytes → eqb (slice_index (pixels_in_bytes bytes) i) 1 ≡ false → nat_le 1 (get_or bytes i 0) ≡ false
     byte i within e =
         let is = get_or-map (λ s. if nat_le 1 s then 1 else 0) bytes i 0 0 within in
         pixel-unset (nat_le 1 (get_or bytes i 0)) (subst (λ (n : ℕ). eqb n 1 ≡ false) is e)
@@ -70,16 +70,16 @@ some_offset width height ox oy bytes size some none =
 pub record Shown (width height ox oy : ℕ) (bytes : List ℕ) : Type 0 where
   pub sides : SidesFit element_side width height
   pub size : length bytes ≡ height * width
-  pub origin : HoldsPlace (raster width height (pixels_of bytes)) ox oy
-  pub some : offsets_of (raster width height (pixels_of bytes)) ox oy ≡ [] → ⊥
+  pub origin : HoldsPlace (raster width height (pixels_in_bytes bytes)) ox oy
+  pub some : offsets_of (raster width height (pixels_in_bytes bytes)) ox oy ≡ [] → ⊥
 
 pub bitmap_sound : (width height ox oy : ℕ) (bytes : List ℕ)
-    → first_of (bitmap_size_case width height ∷ length_case (length bytes) width height ∷ origin_case ox oy width height ∷ empty_case bytes ∷ []) ≡ None
+    → first_of (bitmap_size_case width height ∷ length_case (length bytes) width height ∷ origin_outside_case ox oy width height ∷ empty_case bytes ∷ []) ≡ None
     → Shown width height ox oy bytes
 bitmap_sound width height ox oy bytes none =
-    let size = first_of-none (bitmap_size_case width height) (length_case (length bytes) width height ∷ origin_case ox oy width height ∷ empty_case bytes ∷ []) none in
-    let count = first_of-none (length_case (length bytes) width height) (origin_case ox oy width height ∷ empty_case bytes ∷ []) size.1 in
-    let origin = first_of-none (origin_case ox oy width height) (empty_case bytes ∷ []) count.1 in
+    let size = first_of-none (bitmap_size_case width height) (length_case (length bytes) width height ∷ origin_outside_case ox oy width height ∷ empty_case bytes ∷ []) none in
+    let count = first_of-none (length_case (length bytes) width height) (origin_outside_case ox oy width height ∷ empty_case bytes ∷ []) size.1 in
+    let origin = first_of-none (origin_outside_case ox oy width height) (empty_case bytes ∷ []) count.1 in
     let pixel = first_of-none (empty_case bytes) [] origin.1 in
     let wide = nat_le 1 width && nat_le width 255 in
     let high = nat_le 1 height && nat_le height 255 in

@@ -7,31 +7,32 @@ use Rattle.std.proofs.lemmas.List.{length-map}
 use Rattle.std.proofs.lemmas.List.Elements.{All-cons, All-nil}
 use Rattle.mw_model.specs.declared.codes.Code.{Code}
 use Rattle.mw_model.specs.declared.codes.Code.TheVariants as code
+use Rattle.mw_model.specs.declared.limits.TheConstants.{PIXEL_LIMIT, SIDE_LIMIT}
 use Rattle.mw_model.specs.declared.shapes.Kind.TheVariants as kind
 use Rattle.mw_model.specs.Pictures.{IsImage, picture}
 use Rattle.mw_model.specs.Refusals.{first_of, when}
-use Rattle.mw_c_arrays.specs.Arrays.{pixels_of}
+use Rattle.mw_c_arrays.specs.Arrays.{pixels_in_bytes}
 use Rattle.mw_c_arrays.specs.Faults.{image_sides_fit, length_case, maxval_case, sample_case, size_case}
 use Rattle.mw_c_arrays.proofs.FirstCases.{first_of-none, when-none, when_not-none}
 
 -- the sides are within the limits of an image
 record Sides (width height : ℕ) : Type 0 where
-  pub wide : (1 ≤ width) × (width ≤ 8192)
-  pub high : (1 ≤ height) × (height ≤ 8192)
-  pub area : height * width ≤ 16777216
+  pub wide : (1 ≤ width) × (width ≤ SIDE_LIMIT)
+  pub high : (1 ≤ height) × (height ≤ SIDE_LIMIT)
+  pub area : height * width ≤ PIXEL_LIMIT
 
 sides_are : (width height : ℕ) → image_sides_fit width height ≡ true → Sides width height
 sides_are width height fit =
-    let wide = nat_le 1 width && nat_le width 8192 in
-    let high = nat_le 1 height && nat_le height 8192 in
-    let outer = and_parts (wide && high) (nat_le (height * width) 16777216) fit in
+    let wide = nat_le 1 width && nat_le width SIDE_LIMIT in
+    let high = nat_le 1 height && nat_le height SIDE_LIMIT in
+    let outer = and_parts (wide && high) (nat_le (height * width) PIXEL_LIMIT) fit in
     let inner = and_parts wide high outer.0 in
-    let across = and_parts (nat_le 1 width) (nat_le width 8192) inner.0 in
-    let down = and_parts (nat_le 1 height) (nat_le height 8192) inner.1 in
+    let across = and_parts (nat_le 1 width) (nat_le width SIDE_LIMIT) inner.0 in
+    let down = and_parts (nat_le 1 height) (nat_le height SIDE_LIMIT) inner.1 in
     record {
-      wide = (leb-true 1 width across.0, leb-true width 8192 across.1);
-      high = (leb-true 1 height down.0, leb-true height 8192 down.1);
-      area = leb-true (height * width) 16777216 outer.1;
+      wide = (leb-true 1 width across.0, leb-true width SIDE_LIMIT across.1);
+      high = (leb-true 1 height down.0, leb-true height SIDE_LIMIT down.1);
+      area = leb-true (height * width) PIXEL_LIMIT outer.1;
     }
 
 or-none : (a b : Bool) → (a || b) ≡ false → (a ≡ false) × (b ≡ false)
@@ -48,9 +49,9 @@ one_if_small : (b : Bool) → (if b then 1 else 0) ≤ 1
 one_if_small true = omega arith
 one_if_small false = omega arith
 
-pixels_small : (bytes : List ℕ) → All (λ s. s ≤ 1) (pixels_of bytes)
+pixels_small : (bytes : List ℕ) → All (λ s. s ≤ 1) (pixels_in_bytes bytes)
 pixels_small [] = All-nil (λ s. s ≤ 1)
-pixels_small (s ∷ ss) = All-cons (λ t. t ≤ 1) (if nat_le 1 s then 1 else 0) (pixels_of ss) (one_if_small (nat_le 1 s)) (pixels_small ss)
+pixels_small (s ∷ ss) = All-cons (λ t. t ≤ 1) (if nat_le 1 s then 1 else 0) (pixels_in_bytes ss) (one_if_small (nat_le 1 s)) (pixels_small ss)
 
 -- levels whose maxval is from the first to the last
 pub record Levels (first last width height maxval : ℕ) (samples : List ℕ) : Type 0 where
@@ -87,7 +88,7 @@ levels_sound first last width height maxval samples some few none =
 
 -- a set
 pub set_sound : (width height : ℕ) (bytes : List ℕ) → first_of (size_case width height ∷ length_case (length bytes) width height ∷ []) ≡ None
-    → IsImage (picture kind.Bit width height 1 (pixels_of bytes))
+    → IsImage (picture kind.Bit width height 1 (pixels_in_bytes bytes))
 set_sound width height bytes none =
     let size = first_of-none (size_case width height) (length_case (length bytes) width height ∷ []) none in
     let count = first_of-none (length_case (length bytes) width height) [] size.1 in

@@ -40,8 +40,8 @@ abbrev pub bitmap_size_case : ℕ → ℕ → Option Code
 bitmap_size_case width height = when (not (bitmap_sides_fit width height)) code.Size
 
 -- the origin does not lie in the bitmap
-abbrev pub origin_case : ℕ → ℕ → ℕ → ℕ → Option Code
-origin_case x y width height = when (not (nat_lt x width && nat_lt y height)) code.Origin
+abbrev pub origin_outside_case : ℕ → ℕ → ℕ → ℕ → Option Code
+origin_outside_case x y width height = when (not (nat_lt x width && nat_lt y height)) code.Origin
 
 -- no byte is a pixel of the element
 abbrev pub empty_case : List ℕ → Option Code
@@ -59,7 +59,7 @@ pixels_fault width height bytes = first_of (size_case width height ∷ length_ca
 -- what is wrong with an element, whose origin is in column x of row y
 abbrev pub element_fault : ℕ → ℕ → ℕ → ℕ → List ℕ → Option Code
 element_fault width height x y bytes =
-    first_of (bitmap_size_case width height ∷ length_case (length bytes) width height ∷ origin_case x y width height ∷ empty_case bytes ∷ [])
+    first_of (bitmap_size_case width height ∷ length_case (length bytes) width height ∷ origin_outside_case x y width height ∷ empty_case bytes ∷ [])
 
 -- ---- of arrays with their sides
 

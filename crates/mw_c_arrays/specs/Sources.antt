@@ -21,13 +21,13 @@ source_fault (source.Grey16 f) = grey16_fault f
 source_fault (source.Pixels f) = set_fault f
 
 -- how many samples it has
-abbrev pub source_count : ArrayImage → ℕ
-source_count (source.Grey8 f) = length f.samples.now
-source_count (source.Grey16 f) = length f.samples.now
-source_count (source.Pixels f) = length f.pixels.now
+abbrev pub array_sample_count : ArrayImage → ℕ
+array_sample_count (source.Grey8 f) = length f.samples.now
+array_sample_count (source.Grey16 f) = length f.samples.now
+array_sample_count (source.Pixels f) = length f.pixels.now
 
 -- nothing is wrong with it
-abbrev pub IsSource : ArrayImage → Type 0
-IsSource (source.Grey8 f) = IsGrey8 f
-IsSource (source.Grey16 f) = IsGrey16 f
-IsSource (source.Pixels f) = IsImage (set_picture f)
+abbrev pub IsArrayImage : ArrayImage → Type 0
+IsArrayImage (source.Grey8 f) = IsGrey8 f
+IsArrayImage (source.Grey16 f) = IsGrey16 f
+IsArrayImage (source.Pixels f) = IsImage (set_picture f)

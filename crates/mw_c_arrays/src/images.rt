@@ -1,10 +1,6 @@
-//! Images of what stands in arrays. They copy the samples.
+//! Images of what stands in arrays: levels of grey are copied, and the pixels of a set packed into words.
 
-ghost use Rattle.std.specs.Prelude.{◌≡◌, ◌*◌, length, IfOk};
-ghost use Rattle.mw_model.specs.declared.shapes.Kind.TheVariants as kind;
-ghost use Rattle.mw_model.specs.Pictures.{picture};
-
-use crate::{Grey8, Grey16};
+use crate::{Grey8, Grey16, Set};
 use mw_model::NoMemory;
 use mw_pixel::{Image, Plane};
 use std::alloc::Global;
@@ -42,12 +38,18 @@ impl<'a> Grey16<'a> {
     }
 }
 
-/// The bytes as levels of grey up to 255. It may want memory (`NoMemory`).
-pub fn levels_of(alloc: Global, bytes: &[u8], width: u32, height: u32) -> Result<Image, NoMemory>
-    requires { length bytes.now ≡ height * width }
-    ensures { IfOk result (λ f. f ≡ picture kind.Grey width height 255 bytes.now) }
-{
-    let samples = Vec::from_slice(alloc, bytes)?;
-    let plane = Plane::new(width, height, samples);
-    Ok(Image::grey8(Arc::new(alloc, plane)?, 255))
+impl<'a> Set<'a> {
+    ghost use Rattle.std.specs.Prelude.{◌≡◌, ◌*◌, length, IfOk};
+    ghost use Rattle.mw_c_arrays.specs.Arrays.{set_picture};
+
+    /// The image. It may want memory (`NoMemory`).
+    pub fn image(&self, alloc: Global) -> Result<Image, NoMemory>
+        requires { length self.now.pixels.now ≡ self.now.height * self.now.width }
+        ensures { IfOk result (λ f. f ≡ set_picture self.now) }
+    {
+        let plane = self.plane(alloc)?;
+        // for its pixels, which are 0 or 1
+        let _words = plane.words();
+        Ok(Image::bits(Arc::new(alloc, plane)?))
+    }
 }

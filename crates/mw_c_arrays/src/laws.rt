@@ -1,7 +1,7 @@
 //! What operators make at one place, in plain words: each law is the contract of an empty function.
 
 ghost use Rattle.std.specs.Prelude.{◌≡◌, ℕ, ◌+◌, ◌-◌, ◌*◌, ◌<◌, List, length, min, nat_le, if◌then◌else◌, slice_index};
-ghost use Rattle.mw_model.specs.declared.places.Offset.{Offset};
+ghost use Rattle.mw_model.specs.declared.offsets.Offset.{Offset};
 ghost use Rattle.mw_model.specs.Flat.{dilation, erosion, greatest, in_rising_order, least, rank, threshold, under};
 ghost use Rattle.mw_model.specs.Pictures.{Picture, sample};
 

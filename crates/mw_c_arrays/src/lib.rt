@@ -15,13 +15,13 @@ mod arrays;
 mod cases;
 mod images;
 pub mod laws;
+mod packing;
 mod sources;
 mod tests;
 mod writing;
 
 pub use arrays::{Bitmap, Grey8, Grey16, Set};
 pub use cases::{first_of, when};
-pub use images::levels_of;
 pub use mw_model::{Code, NoMemory};
 pub use sources::ArrayImage;
 pub use writing::{put_bytes, put_words};

@@ -1,7 +1,9 @@
 //! Images that stand in arrays, whatever their samples.
 
 use crate::{Grey8, Grey16, Set};
-use mw_model::Code;
+use mw_model::{Code, NoMemory};
+use mw_pixel::Image;
+use std::alloc::Global;
 
 /// An image that stands in an array.
 #[derive(Clone, Copy)]
@@ -12,13 +14,13 @@ pub enum ArrayImage<'a> {
 }
 
 impl<'a> ArrayImage<'a> {
-    ghost use Rattle.std.specs.Prelude.{◌≡◌, ◌<◌, ◌≤◌, IfNone, slice_index};
-    ghost use Rattle.mw_c_arrays.specs.Sources.{IsSource, picture_in, source_count, source_fault};
+    ghost use Rattle.std.specs.Prelude.{◌≡◌, ◌<◌, IfNone, IfOk, slice_index};
+    ghost use Rattle.mw_c_arrays.specs.Sources.{IsArrayImage, array_sample_count, picture_in, source_fault};
 
     /// The first thing that is wrong with it, if anything is.
     pub fn fault(self) -> Option<Code>
         ensures first { result ≡ source_fault self.entry }
-        ensures sound { IfNone result (IsSource self.entry) }
+        ensures sound { IfNone result (IsArrayImage self.entry) }
     {
         match self {
             ArrayImage::Grey8(f) => f.fault(),
@@ -27,9 +29,21 @@ impl<'a> ArrayImage<'a> {
         }
     }
 
+    /// The image. It may want memory (`NoMemory`).
+    pub fn image(self, alloc: Global) -> Result<Image, NoMemory>
+        requires { IsArrayImage self }
+        ensures { IfOk result (λ f. f ≡ picture_in self.entry) }
+    {
+        match self {
+            ArrayImage::Grey8(f) => f.image(alloc),
+            ArrayImage::Grey16(f) => f.image(alloc),
+            ArrayImage::Pixels(f) => f.image(alloc),
+        }
+    }
+
     /// How many samples it has.
     pub fn count(self) -> usize
-        ensures { result ≡ source_count self.entry }
+        ensures { result ≡ array_sample_count self.entry }
     {
         match self {
             ArrayImage::Grey8(f) => f.samples.len(),
@@ -62,7 +76,7 @@ impl<'a> ArrayImage<'a> {
 
     /// The greatest level that a sample may have.
     pub fn maxval(self) -> u16
-        requires { IsSource self }
+        requires { IsArrayImage self }
         ensures { result ≡ (picture_in self.entry).maxval }
     {
         match self {
@@ -74,7 +88,7 @@ impl<'a> ArrayImage<'a> {
 
     /// The level of the sample of this number, which are counted by rows.
     pub fn level(self, at: usize) -> u16
-        requires { at < source_count self }
+        requires { at < array_sample_count self }
         ensures { result ≡ slice_index (picture_in self.entry).samples at }
     {
         match self {

@@ -1,9 +1,9 @@
 -- the crate's own
 mod Answered
 mod Asked
+mod BitmapElements
 mod Meant
 mod OneStep
 mod Passed
-mod Sets
 mod Sized
 mod Told

@@ -13,7 +13,7 @@ use Rattle.mw_model.specs.Flat.{hit_or_miss}
 use Rattle.mw_c_arrays.specs.declared.arrays.Bitmap.{Bitmap}
 use Rattle.mw_c_arrays.specs.Arrays.{element_in}
 use Rattle.mw_c_calls.specs.Calls.{is_drawing, takes_one}
-use Rattle.mw_c_calls.specs.Sources.{figure_in}
+use Rattle.mw_c_calls.specs.Sources.{bitmap_figure}
 
 -- the value of an operation by one element
 abbrev pub value_by : Op → Picture → Figure → Option Value
@@ -64,7 +64,7 @@ measure_is (Ok w) v wanted made means = volumes_same wanted w v means made
 measure_is (Err c) v wanted made means = tt
 
 -- hits and misses of the same image and elements
-pub hits_made : (x y : Bitmap) (f g h : Picture) (b c : Figure) → f ≡ g → b ≡ figure_in x → c ≡ figure_in y → Some (ImageValue (hit_or_miss b.offsets c.offsets f)) ≡ Some (ImageValue h)
+pub hits_made : (x y : Bitmap) (f g h : Picture) (b c : Figure) → f ≡ g → b ≡ bitmap_figure x → c ≡ bitmap_figure y → Some (ImageValue (hit_or_miss b.offsets c.offsets f)) ≡ Some (ImageValue h)
     → h ≡ hit_or_miss (element_in x) (element_in y) g
 hits_made x y f g h b c image hit miss value =
     let made : h ≡ hit_or_miss b.offsets c.offsets f = cc in

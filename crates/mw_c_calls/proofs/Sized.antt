@@ -3,17 +3,17 @@ use Rattle.std.proofs.Common.{◌≡◌, ℕ, zero, suc, ◌+◌, ◌*◌, ◌�
 use Rattle.std.specs.Prelude.{IfOk, Result, Ok, Err}
 use Rattle.std.proofs.lemmas.List.FromFn.{length-map-range_with_len}
 use Rattle.mw_model.specs.declared.codes.Code.{Code}
-use Rattle.mw_model.specs.declared.places.Offset.{Offset}
+use Rattle.mw_model.specs.declared.offsets.Offset.{Offset}
 use Rattle.mw_model.specs.Iterates.{restoration, spectrum, volume}
 use Rattle.mw_model.specs.Pictures.{IsImage, Picture}
 use Rattle.mw_c_arrays.specs.declared.sources.ArrayImage.{ArrayImage}
 use Rattle.mw_c_arrays.specs.declared.sources.ArrayImage.TheVariants as source
-use Rattle.mw_c_arrays.specs.Sources.{IsSource, picture_in, source_count}
+use Rattle.mw_c_arrays.specs.Sources.{IsArrayImage, array_sample_count, picture_in}
 use Rattle.mw_c_arrays.proofs.SourceImages.{source_image, source_samples}
-use Rattle.mw_c_calls.specs.Sources.{StandsIn}
+use Rattle.mw_c_calls.specs.Sources.{LevelsStandIn}
 
 -- levels up to the same maxval stand alike
-pub source_levels : (f : ArrayImage) (maxval : ℕ) → IsSource f → maxval ≡ (picture_in f).maxval → StandsIn f maxval
+pub source_levels : (f : ArrayImage) (maxval : ℕ) → IsArrayImage f → maxval ≡ (picture_in f).maxval → LevelsStandIn f maxval
 source_levels (source.Grey8 f) maxval is same = subst (λ (n : ℕ). n ≤ 255) (sym same) is.byte
 source_levels (source.Grey16 f) maxval is same = subst (λ (n : ℕ). 256 ≤ n) (sym same) is.high
 source_levels (source.Pixels f) maxval is same = subst (λ (n : ℕ). n ≤ 255) (sym same) (omega arith)
@@ -29,14 +29,14 @@ restored e zero f = record { width = refl; height = refl; maxval = refl }
 restored e (suc n) f = let is = restored e n f in record { width = is.width; height = is.height; maxval = is.maxval }
 
 -- what was made fills as much room
-pub fills_room : (g : Picture) (f : ArrayImage) (room : ℕ) → IsImage g → IsSource f → g.width ≡ (picture_in f).width → g.height ≡ (picture_in f).height → room ≡ source_count f → length g.samples ≡ room
+pub fills_room : (g : Picture) (f : ArrayImage) (room : ℕ) → IsImage g → IsArrayImage f → g.width ≡ (picture_in f).width → g.height ≡ (picture_in f).height → room ≡ array_sample_count f → length g.samples ≡ room
 fills_room g f room made given width height is =
     let wide = ap (λ (n : ℕ). g.height * n) width in
     let high = ap (λ (n : ℕ). n * (picture_in f).width) height in
     made.picture.size ∙ wide ∙ high ∙ sym (source_image f given).picture.size ∙ source_samples f ∙ sym is
 
--- the same of what was made, if it was
-pub restored_fills : (r : Result Picture Code) (e : List Offset) (n : ℕ) (f : ArrayImage) (room : ℕ) → IfOk r IsImage → IfOk r (λ g. g ≡ restoration e n (picture_in f)) → IsSource f → room ≡ source_count f → IfOk r (λ g. length g.samples ≡ room)
+-- a restoration fills as much room, if it was made, and its levels are small
+pub restored_fills : (r : Result Picture Code) (e : List Offset) (n : ℕ) (f : ArrayImage) (room : ℕ) → IfOk r IsImage → IfOk r (λ g. g ≡ restoration e n (picture_in f)) → IsArrayImage f → room ≡ array_sample_count f → IfOk r (λ g. length g.samples ≡ room)
 restored_fills (Ok g) e n f room made value given is =
     let shape = restored e n (picture_in f) in
     fills_room g f room made given (ap (λ (h : Picture). h.width) value ∙ shape.width) (ap (λ (h : Picture). h.height) value ∙ shape.height) is

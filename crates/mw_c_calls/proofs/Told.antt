@@ -4,7 +4,7 @@ use Rattle.std.specs.Prelude.{Result, Ok, Err, option_map}
 use Rattle.mw_model.specs.declared.codes.Code.{Code}
 use Rattle.mw_model.specs.declared.codes.Code.TheVariants as code
 use Rattle.mw_plan.specs.Asked.{IsRefusedBy}
-use Rattle.mw_plan.specs.Faults.{code_of}
+use Rattle.mw_plan.specs.Faults.{plan_code}
 use Rattle.mw_plan.specs.declared.faults.PlanFault.{PlanFault}
 use Rattle.mw_c_calls.specs.Answers.{IsTold}
 
@@ -14,19 +14,19 @@ told_memory A None = refl
 told_memory A (Some c) = inr refl
 
 -- something is made only where nothing is missed
-pub told_ok : {A B : Type 0} (o : Option PlanFault) (asked : Option Code) (a : A) (b : B) → option_map code_of o ≡ asked → IsRefusedBy o (Ok a) → IsTold None asked (Ok b)
+pub told_ok : {A B : Type 0} (o : Option PlanFault) (asked : Option Code) (a : A) (b : B) → option_map plan_code o ≡ asked → IsRefusedBy o (Ok a) → IsTold None asked (Ok b)
 told_ok {A} {B} (Some f) asked a b is refused = absurd cc
 told_ok {A} {B} None asked a b is refused = subst (λ (x : Option Code). IsTold {A = B} None x (Ok b)) is tt
 
 -- the fault of a plan is told by its number
-pub told_err : (A B : Type 0) (o : Option PlanFault) (asked : Option Code) (e : PlanFault) → option_map code_of o ≡ asked → IsRefusedBy {A = A} o (Err e) → IsTold {A = B} None asked (Err (code_of e))
+pub told_err : (A B : Type 0) (o : Option PlanFault) (asked : Option Code) (e : PlanFault) → option_map plan_code o ≡ asked → IsRefusedBy {A = A} o (Err e) → IsTold {A = B} None asked (Err (plan_code e))
 told_err A B (Some f) asked e is refused =
     let same : e ≡ f = cc in
-    subst (λ (x : Option Code). IsTold {A = B} None x (Err (code_of e))) is (inl (ap (λ (g : PlanFault). let r : Result B Code = Err (code_of g) in r) same))
+    subst (λ (x : Option Code). IsTold {A = B} None x (Err (plan_code e))) is (inl (ap (λ (g : PlanFault). let r : Result B Code = Err (plan_code g) in r) same))
 told_err A B None asked e is refused =
-    subst (λ (x : Option Code). IsTold {A = B} None x (Err (code_of e))) is (ap code_of refused)
+    subst (λ (x : Option Code). IsTold {A = B} None x (Err (plan_code e))) is (ap plan_code refused)
 
--- the same of what was made of it
+-- what is told of a result is told of one that is made of it
 pub told_same_ok : {A B : Type 0} (asked : Option Code) (a : A) (b : B) → IsTold None asked (Ok a) → IsTold None asked (Ok b)
 told_same_ok {A} {B} None a b told = tt
 told_same_ok {A} {B} (Some c) a b told = elim told [ inl e ↦ absurd cc | inr e ↦ absurd cc ]

@@ -2,11 +2,12 @@
 use Rattle.std.specs.Prelude.{ℕ, ◌==◌, Bool, true, false, not, nat_lt, List, [], ◌∷◌, length, Option, None, if◌then◌else◌}
 use Rattle.mw_model.specs.declared.codes.Code.{Code}
 use Rattle.mw_model.specs.declared.codes.Code.TheVariants as code
+use Rattle.mw_model.specs.declared.limits.TheConstants.{SIZE_LIMIT, TURN_LIMIT}
 use Rattle.mw_model.specs.declared.operations.FlatOp.TheVariants as flat
 use Rattle.mw_model.specs.declared.operations.GranOp.TheVariants as gran
 use Rattle.mw_model.specs.declared.operations.Op.{Op}
 use Rattle.mw_model.specs.declared.operations.Op.TheVariants as op
-use Rattle.mw_model.specs.declared.places.Offset.{Offset}
+use Rattle.mw_model.specs.declared.offsets.Offset.{Offset}
 use Rattle.mw_model.specs.Elements.{holds_origin, overlaps}
 use Rattle.mw_model.specs.Flat.{black_top_hat, closing, dilation, erosion, gradient, opening, rank, white_top_hat}
 use Rattle.mw_model.specs.Pictures.{Picture}
@@ -71,9 +72,9 @@ is_drawing (op.Gran (gran.Spectrum f b levels)) = false
 is_drawing o = true
 
 -- what the operation asks of the image and the element
-abbrev pub asks : Op → Picture → List Offset → Option Code
-asks (op.Flat (flat.Rank f b k)) g e = rank_fault k e
-asks (op.Gran (gran.Skeleton f b levels)) g e = first_of (when (not (is_binary (shape_of_picture g))) code.Binary ∷ no_origin_case e ∷ param_case 1 254 levels ∷ [])
-asks (op.Gran (gran.Restore f b levels)) g e = first_of (param_case 1 254 levels ∷ [])
-asks (op.Gran (gran.Spectrum f b levels)) g e = first_of (param_case 1 32 levels ∷ [])
-asks o g e = None
+abbrev pub operation_fault : Op → Picture → List Offset → Option Code
+operation_fault (op.Flat (flat.Rank f b k)) g e = rank_fault k e
+operation_fault (op.Gran (gran.Skeleton f b levels)) g e = first_of (when (not (is_binary (shape_of_picture g))) code.Binary ∷ no_origin_case e ∷ param_case 1 TURN_LIMIT levels ∷ [])
+operation_fault (op.Gran (gran.Restore f b levels)) g e = first_of (param_case 1 TURN_LIMIT levels ∷ [])
+operation_fault (op.Gran (gran.Spectrum f b levels)) g e = first_of (param_case 1 SIZE_LIMIT levels ∷ [])
+operation_fault o g e = None

@@ -1,4 +1,5 @@
 pub mod Answers
+pub mod CallAnswers
 pub mod Calls
 pub mod Rows
 pub mod Sources

@@ -1,7 +1,7 @@
 -- Ways in which flat operators go over an image (own).
 use Rattle.std.specs.Prelude.{List, Option, None}
 use Rattle.mw_model.specs.declared.codes.Code.{Code}
-use Rattle.mw_model.specs.declared.places.Offset.{Offset}
+use Rattle.mw_model.specs.declared.offsets.Offset.{Offset}
 use Rattle.mw_model.specs.Flat.{gradient, rank}
 use Rattle.mw_model.specs.Pictures.{Picture}
 use Rattle.mw_plan.specs.Steps.{filtering, residue, sliding}

@@ -3,12 +3,12 @@
 
 ghost use Rattle.std.specs.Prelude.{◌≡◌, ◌≢◌, pos, length};
 ghost use Rattle.mw_model.specs.declared.limits.TheConstants.{LEVEL_LIMIT};
-ghost use Rattle.mw_c_arrays.specs.Arrays.{element_of, grey_of, set_of};
-ghost use Rattle.mw_c_arrays.specs.Faults.{element_fault, levels_fault, pixels_fault};
+ghost use Rattle.mw_c_arrays.specs.Arrays.{element_in_bytes, grey_in_array, set_in_bytes};
+ghost use Rattle.mw_c_arrays.specs.Faults.{levels_fault, pixels_fault};
 ghost use Rattle.mw_c_strips.specs.Rows.{rows_from};
-ghost use Rattle.mw_c_calls.specs.Answers.{IsAnswer};
-ghost use Rattle.mw_c_calls.specs.Calls.{call_fault, flat_asks, flat_of};
-ghost use Rattle.mw_c_calls.specs.Rows.{row_operation_case, rows_case};
+ghost use Rattle.mw_c_calls.specs.CallAnswers.{IsRowsAnswer};
+ghost use Rattle.mw_c_calls.specs.Calls.{flat_of};
+ghost use Rattle.mw_c_calls.specs.Rows.{rows_case};
 
 use crate::answers::answer;
 use crate::row_calls::flat_rows;
@@ -32,9 +32,9 @@ pub fn flat_rows_u8(
     element_y: u32,
     out: &mut [u8],
 ) -> i32
-    ensures made { result ≡ pos 0 → out.new ≡ rows_from first_row (length out.old) (flat_of operation k (element_of element_width element_height element_x element_y element.now) (grey_of width height maxval samples.now)) }
+    ensures made { result ≡ pos 0 → out.new ≡ rows_from first_row (length out.old) (flat_of operation k (element_in_bytes element_width element_height element_x element_y element.now) (grey_in_array width height maxval samples.now)) }
     ensures kept { result ≢ pos 0 → out.new ≡ out.old }
-    ensures first { IsAnswer (call_fault (row_operation_case operation) (levels_fault 1 255 width height maxval samples.now) (rows_case first_row (length out.old) width (length samples.now)) (element_fault element_width element_height element_x element_y element.now)) (flat_asks operation k (element_of element_width element_height element_x element_y element.now)) result }
+    ensures first { IsRowsAnswer operation k (levels_fault 1 255 width height maxval samples.now) (rows_case first_row (length out.old) width (length samples.now)) element_width element_height element_x element_y element.now result }
 {
     let image = Grey8 {
         samples,
@@ -70,9 +70,9 @@ pub fn flat_rows_u16(
     element_y: u32,
     out: &mut [u16],
 ) -> i32
-    ensures made { result ≡ pos 0 → out.new ≡ rows_from first_row (length out.old) (flat_of operation k (element_of element_width element_height element_x element_y element.now) (grey_of width height maxval samples.now)) }
+    ensures made { result ≡ pos 0 → out.new ≡ rows_from first_row (length out.old) (flat_of operation k (element_in_bytes element_width element_height element_x element_y element.now) (grey_in_array width height maxval samples.now)) }
     ensures kept { result ≢ pos 0 → out.new ≡ out.old }
-    ensures first { IsAnswer (call_fault (row_operation_case operation) (levels_fault 256 LEVEL_LIMIT width height maxval samples.now) (rows_case first_row (length out.old) width (length samples.now)) (element_fault element_width element_height element_x element_y element.now)) (flat_asks operation k (element_of element_width element_height element_x element_y element.now)) result }
+    ensures first { IsRowsAnswer operation k (levels_fault 256 LEVEL_LIMIT width height maxval samples.now) (rows_case first_row (length out.old) width (length samples.now)) element_width element_height element_x element_y element.now result }
 {
     let image = Grey16 {
         samples,
@@ -107,9 +107,9 @@ pub fn flat_rows_set(
     element_y: u32,
     out: &mut [u8],
 ) -> i32
-    ensures made { result ≡ pos 0 → out.new ≡ rows_from first_row (length out.old) (flat_of operation k (element_of element_width element_height element_x element_y element.now) (set_of width height pixels.now)) }
+    ensures made { result ≡ pos 0 → out.new ≡ rows_from first_row (length out.old) (flat_of operation k (element_in_bytes element_width element_height element_x element_y element.now) (set_in_bytes width height pixels.now)) }
     ensures kept { result ≢ pos 0 → out.new ≡ out.old }
-    ensures first { IsAnswer (call_fault (row_operation_case operation) (pixels_fault width height pixels.now) (rows_case first_row (length out.old) width (length pixels.now)) (element_fault element_width element_height element_x element_y element.now)) (flat_asks operation k (element_of element_width element_height element_x element_y element.now)) result }
+    ensures first { IsRowsAnswer operation k (pixels_fault width height pixels.now) (rows_case first_row (length out.old) width (length pixels.now)) element_width element_height element_x element_y element.now result }
 {
     let image = Set {
         pixels,

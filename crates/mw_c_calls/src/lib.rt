@@ -24,7 +24,6 @@ mod operations;
 mod residues;
 mod row_calls;
 mod row_ways;
-mod sources;
 mod spectra;
 mod thresholds;
 mod ways;

@@ -1,13 +1,12 @@
 //! Skeletons of sets, and sets restored from their marks.
 
-ghost use Rattle.std.specs.Prelude.{◌≡◌, ◌≢◌, pos, length, None};
+ghost use Rattle.std.specs.Prelude.{◌≡◌, ◌≢◌, pos, length};
 ghost use Rattle.mw_model.specs.Iterates.{restoration, skeleton};
-ghost use Rattle.mw_model.specs.Refusals.{param_case};
 ghost use Rattle.mw_model.specs.declared.limits.TheConstants.{LEVEL_LIMIT};
-ghost use Rattle.mw_c_arrays.specs.Arrays.{element_of, grey_of, set_of};
-ghost use Rattle.mw_c_arrays.specs.Faults.{element_fault, levels_fault, pixels_fault};
-ghost use Rattle.mw_c_calls.specs.Answers.{IsAnswer};
-ghost use Rattle.mw_c_calls.specs.Calls.{call_fault, no_origin_case, room_case};
+ghost use Rattle.mw_c_arrays.specs.Arrays.{element_in_bytes, grey_in_array, set_in_bytes};
+ghost use Rattle.mw_c_arrays.specs.Faults.{levels_fault, pixels_fault};
+ghost use Rattle.mw_c_calls.specs.CallAnswers.{IsRestorationAnswer, IsSkeletonAnswer};
+ghost use Rattle.mw_c_calls.specs.Calls.{room_case};
 
 use crate::answers::answer_bytes;
 use crate::calls::{marks, restored};
@@ -28,9 +27,9 @@ pub fn skeleton(
     element_y: u32,
     out: &mut [u8],
 ) -> i32
-    ensures made { result ≡ pos 0 → out.new ≡ (skeleton (element_of element_width element_height element_x element_y element.now) levels (set_of width height pixels.now)).samples }
+    ensures made { result ≡ pos 0 → out.new ≡ (skeleton (element_in_bytes element_width element_height element_x element_y element.now) levels (set_in_bytes width height pixels.now)).samples }
     ensures kept { result ≢ pos 0 → out.new ≡ out.old }
-    ensures first { IsAnswer (call_fault (param_case 1 254 levels) (pixels_fault width height pixels.now) (room_case (length out.old) (length pixels.now)) (element_fault element_width element_height element_x element_y element.now)) (no_origin_case (element_of element_width element_height element_x element_y element.now)) result }
+    ensures first { IsSkeletonAnswer levels (pixels_fault width height pixels.now) (room_case (length out.old) (length pixels.now)) element_width element_height element_x element_y element.now result }
 {
     let image = Set {
         pixels,
@@ -62,9 +61,9 @@ pub fn restore_u8(
     element_y: u32,
     out: &mut [u8],
 ) -> i32
-    ensures made { result ≡ pos 0 → out.new ≡ (restoration (element_of element_width element_height element_x element_y element.now) levels (grey_of width height maxval samples.now)).samples }
+    ensures made { result ≡ pos 0 → out.new ≡ (restoration (element_in_bytes element_width element_height element_x element_y element.now) levels (grey_in_array width height maxval samples.now)).samples }
     ensures kept { result ≢ pos 0 → out.new ≡ out.old }
-    ensures first { IsAnswer (call_fault (param_case 1 254 levels) (levels_fault 1 255 width height maxval samples.now) (room_case (length out.old) (length samples.now)) (element_fault element_width element_height element_x element_y element.now)) None result }
+    ensures first { IsRestorationAnswer levels (levels_fault 1 255 width height maxval samples.now) (room_case (length out.old) (length samples.now)) element_width element_height element_x element_y element.now result }
 {
     let image = Grey8 {
         samples,
@@ -98,9 +97,9 @@ pub fn restore_u16(
     element_y: u32,
     out: &mut [u8],
 ) -> i32
-    ensures made { result ≡ pos 0 → out.new ≡ (restoration (element_of element_width element_height element_x element_y element.now) levels (grey_of width height maxval samples.now)).samples }
+    ensures made { result ≡ pos 0 → out.new ≡ (restoration (element_in_bytes element_width element_height element_x element_y element.now) levels (grey_in_array width height maxval samples.now)).samples }
     ensures kept { result ≢ pos 0 → out.new ≡ out.old }
-    ensures first { IsAnswer (call_fault (param_case 1 254 levels) (levels_fault 256 LEVEL_LIMIT width height maxval samples.now) (room_case (length out.old) (length samples.now)) (element_fault element_width element_height element_x element_y element.now)) None result }
+    ensures first { IsRestorationAnswer levels (levels_fault 256 LEVEL_LIMIT width height maxval samples.now) (room_case (length out.old) (length samples.now)) element_width element_height element_x element_y element.now result }
 {
     let image = Grey16 {
         samples,

@@ -3,7 +3,7 @@
 ghost use Rattle.std.specs.Prelude.{◌≡◌, length, map, IfErr, IfOk};
 ghost use Rattle.mw_c_arrays.specs.Arrays.{element_in};
 ghost use Rattle.mw_c_arrays.specs.Faults.{bitmap_fault};
-ghost use Rattle.mw_c_arrays.specs.Sources.{IsSource, picture_in, source_count, source_fault};
+ghost use Rattle.mw_c_arrays.specs.Sources.{IsArrayImage, array_sample_count, picture_in, source_fault};
 ghost use Rattle.mw_c_strips.specs.Rows.{rows_from};
 ghost use Rattle.mw_c_calls.specs.Answers.{IsTold};
 ghost use Rattle.mw_c_calls.specs.Calls.{call_fault, flat_asks, flat_of};
@@ -32,10 +32,10 @@ pub(crate) fn flat_rows<P: Sample>(
     b: &Bitmap<'_>,
     out: &mut [P],
 ) -> Result<(), Code>
-    requires { IsSource f → P.stands (picture_in f).maxval }
+    requires { IsArrayImage f → P.stands (picture_in f).maxval }
     ensures made { IfOk result (λ _. map P.level out.new ≡ rows_from first (length out.old) (flat_of numbers.0 numbers.1 (element_in b.now) (picture_in f.entry))) }
     ensures kept { IfErr result (λ _. out.new ≡ out.old) }
-    ensures told { IsTold (call_fault (row_operation_case numbers.0) (source_fault f.entry) (rows_case first (length out.old) (picture_in f.entry).width (source_count f.entry)) (bitmap_fault b.now)) (flat_asks numbers.0 numbers.1 (element_in b.now)) result }
+    ensures told { IsTold (call_fault (row_operation_case numbers.0) (source_fault f.entry) (rows_case first (length out.old) (picture_in f.entry).width (array_sample_count f.entry)) (bitmap_fault b.now)) (flat_asks numbers.0 numbers.1 (element_in b.now)) result }
 {
     let (operation, k) = numbers;
     let one = has_one_step(operation);

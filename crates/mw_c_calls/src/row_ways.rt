@@ -4,7 +4,7 @@ ghost use Rattle.std.specs.Prelude.{◌≡◌, length, map, None, true, IfErr, I
 ghost use Rattle.std.specs.Arc.{arc_value};
 ghost use Rattle.mw_c_arrays.specs.Arrays.{element_in};
 ghost use Rattle.mw_c_arrays.specs.Sound.{IsElementBitmap};
-ghost use Rattle.mw_c_arrays.specs.Sources.{IsSource, picture_in};
+ghost use Rattle.mw_c_arrays.specs.Sources.{IsArrayImage, picture_in};
 ghost use Rattle.mw_c_strips.specs.Rows.{AreRows, rows_from};
 ghost use Rattle.mw_c_calls.specs.Answers.{IsTold};
 ghost use Rattle.mw_c_calls.specs.Rows.{is_one_step};
@@ -26,7 +26,7 @@ fn write_rows<P: Sample>(
     first: u32,
     out: &mut [P],
 ) -> Result<(), NoMemory>
-    requires sound { IsSource f }
+    requires sound { IsArrayImage f }
     requires one { is_one_step way ≡ true }
     requires rows { AreRows first (length out.old) (picture_in f) }
     requires stands { P.stands (picture_in f).maxval }
@@ -51,7 +51,7 @@ pub(crate) fn write_rows_by<P: Sample>(
     first: u32,
     out: &mut [P],
 ) -> Result<(), Code>
-    requires sound { IsSource f }
+    requires sound { IsArrayImage f }
     requires element { IsElementBitmap b.now }
     requires one { is_one_step way ≡ true }
     requires rows { AreRows first (length out.old) (picture_in f) }

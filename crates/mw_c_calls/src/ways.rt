@@ -2,11 +2,11 @@
 
 ghost use Rattle.std.specs.Prelude.{◌≡◌, ◌<◌, List, length, map, None, IfErr, IfOk};
 ghost use Rattle.std.specs.Arc.{arc_value};
-ghost use Rattle.mw_model.specs.declared.places.Offset.{Offset};
+ghost use Rattle.mw_model.specs.declared.offsets.Offset.{Offset};
 ghost use Rattle.mw_model.specs.Pictures.{Picture};
 ghost use Rattle.mw_c_arrays.specs.Arrays.{element_in};
 ghost use Rattle.mw_c_arrays.specs.Sound.{IsElementBitmap};
-ghost use Rattle.mw_c_arrays.specs.Sources.{IsSource, picture_in, source_count};
+ghost use Rattle.mw_c_arrays.specs.Sources.{IsArrayImage, array_sample_count, picture_in};
 ghost use Rattle.mw_c_calls.specs.Answers.{IsTold};
 ghost use Rattle.mw_c_calls.specs.Calls.{flat_asks, flat_of, rank_fault};
 ghost use Rattle.mw_c_calls.specs.Rows.{has_one_step, is_one_step};
@@ -86,8 +86,8 @@ fn write<P: Sample>(
     b: &Arc<Element>,
     out: &mut [P],
 ) -> Result<(), NoMemory>
-    requires sound { IsSource f }
-    requires room { length out.old ≡ source_count f }
+    requires sound { IsArrayImage f }
+    requires room { length out.old ≡ array_sample_count f }
     requires stands { P.stands (picture_in f).maxval }
     ensures made { IfOk result (λ _. map P.level out.new ≡ (way_picture way (arc_value b.now).offsets (picture_in f.entry)).samples) }
     ensures kept { IfErr result (λ _. out.new ≡ out.old) }
@@ -109,9 +109,9 @@ pub(crate) fn write_by<P: Sample>(
     b: &Bitmap<'_>,
     out: &mut [P],
 ) -> Result<(), Code>
-    requires sound { IsSource f }
+    requires sound { IsArrayImage f }
     requires element { IsElementBitmap b.now }
-    requires room { length out.old ≡ source_count f }
+    requires room { length out.old ≡ array_sample_count f }
     requires stands { P.stands (picture_in f).maxval }
     ensures made { IfOk result (λ _. map P.level out.new ≡ (way_picture way (element_in b.now) (picture_in f.entry)).samples) }
     ensures kept { IfErr result (λ _. out.new ≡ out.old) }

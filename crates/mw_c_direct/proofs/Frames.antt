@@ -2,10 +2,10 @@
 use Rattle.std.proofs.Common.{◌≡◌, ℕ, ◌+◌, ◌-◌, true, false, List, [], ◌∷◌, map, Option, refl, ap, sym, arith, ◌∙◌, min, zero-add}
 use Rattle.std.specs.Prelude.{slice_index_or, sum, if◌then◌else◌}
 use Rattle.std.specs.List.{AllByRecursion}
-use Rattle.mw_model.specs.declared.places.Rect.{Rect}
-use Rattle.mw_model.specs.declared.places.Reach.{Reach}
+use Rattle.mw_model.specs.declared.offsets.Rect.{Rect}
+use Rattle.mw_model.specs.declared.offsets.Reach.{Reach}
 use Rattle.mw_model.specs.declared.shapes.Kind.{Kind}
-use Rattle.mw_model.specs.Places.{rect, grown}
+use Rattle.mw_model.specs.Rectangles.{rect, grown}
 use Rattle.mw_model.specs.Elements.{reach_of}
 use Rattle.mw_model.specs.Pictures.{Picture, picture}
 use Rattle.mw_model.specs.PlanSteps.{PlanStep, looks_at, kind_of_step, maxval_of_step, step_at}
@@ -17,7 +17,7 @@ use Rattle.mw_step_task.specs.Sources.{HasFrame, AreCut}
 use Rattle.mw_step_task.specs.WindowTasks.{WindowTask, FitsStep, made_of_windows, tile_made, window_at}
 use Rattle.mw_step_task.proofs.Cut.{made_of_cut}
 use Rattle.mw_plan.proofs.WindowsFit.{made_fits}
-use Rattle.mw_c_direct.specs.Kept.{IsDone, IsReady, plane_kept, sources_kept, whole_window}
+use Rattle.mw_c_direct.specs.Kept.{IsReady, IsWholeTask, plane_kept, sources_kept, whole_window}
 
 -- ---- what a step reads for the whole frame is the whole frame
 
@@ -71,7 +71,7 @@ whole_cells s fs m n =
     ap (λ (f : Picture). if is_sum s then sum f.samples ∷ [] else f.samples)
     (drawn_same (kind_of_step s first.kind) m n (maxval_of_step s first.maxval) (λ x y. value (0 + x) (0 + y)) value (λ x y p q. rw (zero-add x, zero-add y) refl))
 
-done_cut : (image : Picture) (planes : List (Option Picture)) (p : Planned) (t : WindowTask) → IsReady image planes p → IsDone image planes p t
+done_cut : (image : Picture) (planes : List (Option Picture)) (p : Planned) (t : WindowTask) → IsReady image planes p → IsWholeTask image planes p t
     → made_of_windows t.step t.windows t.rect ≡ made_of_planes p.step (sources_kept image planes p) (rect 0 0 image.width image.height)
 done_cut image planes p t ready done =
     ap (λ (x : PlanStep). made_of_windows x t.windows t.rect) done.step
@@ -82,7 +82,7 @@ only_same : (a b : ℕ) → a ∷ [] ≡ b ∷ [] → b ≡ a
 only_same a b e = cc
 
 -- of a Sum step the sum of its plane
-pub number_is : (image : Picture) (planes : List (Option Picture)) (p : Planned) (t : WindowTask) (n : ℕ) → IsReady image planes p → IsDone image planes p t → is_sum p.step ≡ true
+pub number_is : (image : Picture) (planes : List (Option Picture)) (p : Planned) (t : WindowTask) (n : ℕ) → IsReady image planes p → IsWholeTask image planes p t → is_sum p.step ≡ true
     → made_of_windows t.step t.windows t.rect ≡ n ∷ [] → n ≡ sum (plane_of p.step (sources_kept image planes p) image.width image.height).samples
 number_is image planes p t n ready done sums is =
     let f = plane_of p.step (sources_kept image planes p) image.width image.height in
@@ -98,7 +98,7 @@ first_maxval place [] = refl
 first_maxval place (f ∷ fs) = refl
 
 -- of each other step its plane
-pub plane_is_made : (image : Picture) (planes : List (Option Picture)) (p : Planned) (t : WindowTask) → IsReady image planes p → IsDone image planes p t → is_sum p.step ≡ false
+pub plane_is_made : (image : Picture) (planes : List (Option Picture)) (p : Planned) (t : WindowTask) → IsReady image planes p → IsWholeTask image planes p t → is_sum p.step ≡ false
     → tile_made t ≡ plane_of p.step (sources_kept image planes p) image.width image.height
 plane_is_made image planes p t ready done plain =
     let fs = sources_kept image planes p in

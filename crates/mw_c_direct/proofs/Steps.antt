@@ -4,6 +4,7 @@ use Rattle.std.specs.Prelude.{replicate, slice_index_or, slice_set, unwrap_or, I
 use Rattle.std.specs.List.{AllByRecursion, list_any}
 use Rattle.std.proofs.lemmas.Bool.{cases_eq, cases_lt, ne_eqb, true_from_ne_false}
 use Rattle.std.proofs.lemmas.List.{append-nil}
+use Rattle.mw_model.specs.declared.limits.TheConstants.{PIXEL_LIMIT, SIDE_LIMIT}
 use Rattle.mw_model.specs.Pictures.{Picture, FitsKind, IsImage, IsPicture}
 use Rattle.mw_model.specs.Plans.{Plan, Planned, Source, FromInput, FromStep, IsSourceAt, is_sum, no_picture, numbers_from, plane_of, plane_of_source, with_number}
 use Rattle.mw_model.specs.Tasks.{flag, is_step, nothing_planned}
@@ -12,8 +13,8 @@ use Rattle.mw_plan.specs.PlansOf.{CanBeMade, IsPlaneSource, planes_read}
 use Rattle.mw_plan.proofs.Planes.{length-planes, plane_is}
 use Rattle.mw_c_direct.specs.declared.making.Product.{Product}
 use Rattle.mw_c_direct.specs.declared.making.Product.TheVariants as product
-use Rattle.mw_c_direct.specs.Kept.{IsEmpty, IsKeptWanted, IsMade, IsReady, IsThere, IsThereIfMade, IsWanted, KeepsRead, kept_at, plane_kept, sources_kept}
-use Rattle.mw_c_direct.specs.Products.{IsNumberOf, IsProduct, number_in, put}
+use Rattle.mw_c_direct.specs.Kept.{IsEmpty, IsKeptWanted, IsReady, IsThere, IsThereIfMade, IsWanted, KeepsRead, SourceIsMade, kept_at, plane_kept, sources_kept}
+use Rattle.mw_c_direct.specs.Products.{IsNumberOf, IsProduct, number_made, put}
 use Rattle.mw_c_direct.specs.Runs.{CanBeNext, HasRun, HasSteps, IsRunnable, planes_on}
 
 -- the true plane of a step
@@ -30,7 +31,7 @@ some_is : (o : Option Picture) (g : Picture) → IsSome o → IfSome o (λ f. f 
 some_is None g there is = absurd cc
 some_is (Some f) g there is = is
 
-made_there : (made : List Bool) (kept : List (Option Picture)) (ss : List Source) → AllByRecursion (IsMade made) ss → AllByRecursion (IsThereIfMade made kept) ss → AllByRecursion (IsThere kept) ss
+made_there : (made : List Bool) (kept : List (Option Picture)) (ss : List Source) → AllByRecursion (SourceIsMade made) ss → AllByRecursion (IsThereIfMade made kept) ss → AllByRecursion (IsThere kept) ss
 made_there made kept [] sources there = tt
 made_there made kept (FromInput i ∷ ss) sources there = (tt, made_there made kept ss sources.1 there.1)
 made_there made kept (FromStep i ∷ ss) sources there = (there.0 sources.0, made_there made kept ss sources.1 there.1)
@@ -70,7 +71,7 @@ pub record CanRun (plan : Plan) (image : Picture) (made : List Bool) (kept : Lis
   pub run : HasRun plan image made kept
   pub within : k < length plan
   pub unmade : flag made k ≡ false
-  pub sources : AllByRecursion (IsMade made) (step_in plan k).sources
+  pub sources : AllByRecursion (SourceIsMade made) (step_in plan k).sources
 
 all_there : (plan : Plan) (image : Picture) (made : List Bool) (kept : List (Option Picture)) (k : ℕ) → CanRun plan image made kept k → AllByRecursion (IsThere kept) (step_in plan k).sources
 all_there plan image made kept k can = made_there made kept (step_in plan k).sources can.sources (can.run.read k can.within can.unmade)
@@ -294,10 +295,10 @@ numbers_more (s ∷ plan) (f ∷ planes) (suc k) lt size =
     go false ms ns os e = e
 
 -- the number of a step, if it sums up
-pub number_told : (s : Planned) (g : Picture) (made : Product) (n : Option ℕ) → n ≡ number_in made → IsProduct s.step g made → IsNumberOf s.step g n
+pub number_told : (s : Planned) (g : Picture) (made : Product) (n : Option ℕ) → n ≡ number_made made → IsProduct s.step g made → IsNumberOf s.step g n
 number_told s g made n told is = subst (IsNumberOf s.step g) (sym told) (go made is)
   where
-    go : (made : Product) → IsProduct s.step g made → IsNumberOf s.step g (number_in made)
+    go : (made : Product) → IsProduct s.step g made → IsNumberOf s.step g (number_made made)
     go (product.Plane f) is = is.0
     go (product.Number n) is = is
 
@@ -328,9 +329,9 @@ last_sound plan image f runs sound last picture maxval =
     record {
       picture = picture;
       maxval = maxval;
-      width = subst (λ (n : ℕ). (1 ≤ n) × (n ≤ 8192)) (sym wide) sound.width;
-      height = subst (λ (n : ℕ). (1 ≤ n) × (n ≤ 8192)) (sym high) sound.height;
-      area = subst (λ (n : ℕ). n * f.width ≤ 16777216) (sym high) (subst (λ (n : ℕ). image.height * n ≤ 16777216) (sym wide) sound.area);
+      width = subst (λ (n : ℕ). (1 ≤ n) × (n ≤ SIDE_LIMIT)) (sym wide) sound.width;
+      height = subst (λ (n : ℕ). (1 ≤ n) × (n ≤ SIDE_LIMIT)) (sym high) sound.height;
+      area = subst (λ (n : ℕ). n * f.width ≤ PIXEL_LIMIT) (sym high) (subst (λ (n : ℕ). image.height * n ≤ PIXEL_LIMIT) (sym wide) sound.area);
     }
 
 -- ---- the first step, and how many are left
@@ -387,7 +388,7 @@ one_less (false ∷ made) (suc k) lt unmade = let less = one_less made k (omega 
 
 -- ---- which step is next
 
-below_made : (made : List Bool) (n : ℕ) (ss : List Source) → ((i : ℕ) → i < n → flag made i ≡ true) → AllByRecursion (IsSourceAt 1 n) ss → AllByRecursion (IsMade made) ss
+below_made : (made : List Bool) (n : ℕ) (ss : List Source) → ((i : ℕ) → i < n → flag made i ≡ true) → AllByRecursion (IsSourceAt 1 n) ss → AllByRecursion (SourceIsMade made) ss
 below_made made n [] all sources = tt
 below_made made n (FromInput i ∷ ss) all sources = (tt, below_made made n ss all sources.1)
 below_made made n (FromStep i ∷ ss) all sources = (all i sources.0, below_made made n ss all sources.1)
@@ -405,5 +406,5 @@ none_left plan made k steps none (suc n) i le lt =
           (true_from_ne_false (flag made n) (λ unmade. none n (record { before = omega arith; unmade = unmade; sources = below_made made n (step_in plan n).sources before (steps n) })))
     ]
 
-pub sources_made : (plan : Plan) (made : List Bool) (k : ℕ) → HasSteps plan → ((i : ℕ) → CanBeNext plan made k i → ⊥) → AllByRecursion (IsMade made) (step_in plan k).sources
+pub sources_made : (plan : Plan) (made : List Bool) (k : ℕ) → HasSteps plan → ((i : ℕ) → CanBeNext plan made k i → ⊥) → AllByRecursion (SourceIsMade made) (step_in plan k).sources
 sources_made plan made k steps none = below_made made k (step_in plan k).sources (λ i lt. none_left plan made k steps none k i (omega arith) lt) (steps k)

@@ -6,14 +6,10 @@ use Rattle.mw_model.specs.Pictures.{Picture}
 use Rattle.mw_model.specs.Plans.{Plan, Planned, Source, FromInput, FromStep, no_picture}
 use Rattle.mw_model.specs.Tasks.{flag, is_step, nothing_planned}
 use Rattle.mw_grid.specs.Rectangles.{whole_frame}
-use Rattle.mw_tile.specs.Windows.{SourceWindow, window_of}
+pub use Rattle.mw_tile.specs.Windows.{whole_window}
 use Rattle.mw_step_task.specs.Sources.{HasFrame}
 use Rattle.mw_step_task.specs.WindowTasks.{WindowTask, IsBounded}
 use Rattle.mw_plan.specs.PlansOf.{CanBeMade}
-
--- the window that has the whole of an image
-abbrev pub whole_window : Picture → SourceWindow
-whole_window f = window_of (whole_frame f.width f.height) f
 
 -- what is kept of the plane of a step
 abbrev pub kept_at : List (Option Picture) → ℕ → Option Picture
@@ -48,16 +44,16 @@ pub record IsReady (image : Picture) (planes : List (Option Picture)) (s : Plann
   pub low : image.height ≤ SIDE_LIMIT
 
 -- The task is the step's for the whole frame, with the whole of each source.
-pub record IsDone (image : Picture) (planes : List (Option Picture)) (s : Planned) (t : WindowTask) : Type 0 where
+pub record IsWholeTask (image : Picture) (planes : List (Option Picture)) (s : Planned) (t : WindowTask) : Type 0 where
   pub step : t.step ≡ s.step
   pub place : t.rect ≡ whole_frame image.width image.height
   pub windows : t.windows ≡ map (λ x. whole_window (plane_kept image planes x)) s.sources
   pub bounded : AllByRecursion IsBounded t.windows
 
 -- the source is the image, or a step that is made
-abbrev pub IsMade : List Bool → Source → Type 0
-IsMade made (FromInput i) = Unit {0}
-IsMade made (FromStep i) = flag made i ≡ true
+abbrev pub SourceIsMade : List Bool → Source → Type 0
+SourceIsMade made (FromInput i) = Unit {0}
+SourceIsMade made (FromStep i) = flag made i ≡ true
 
 -- the source, if it is a step that is made, is kept
 abbrev pub IsThereIfMade : List Bool → List (Option Picture) → Source → Type 0

@@ -17,9 +17,9 @@ put kept k (product.Plane f) = slice_set kept k (Some f)
 put kept k (product.Number n) = kept
 
 -- the number that was made, if one was
-abbrev pub number_in : Product → Option ℕ
-number_in (product.Plane f) = None
-number_in (product.Number n) = Some n
+abbrev pub number_made : Product → Option ℕ
+number_made (product.Plane f) = None
+number_made (product.Number n) = Some n
 
 -- it is the sum of the plane's samples for a Sum step, and none for another
 abbrev pub IsNumberOf : PlanStep → Picture → Option ℕ → Type 0

@@ -6,7 +6,7 @@ use Rattle.mw_model.specs.Pictures.{Picture}
 use Rattle.mw_model.specs.Plans.{Plan, IsSourceAt, no_picture, planes}
 use Rattle.mw_model.specs.Tasks.{flag, nothing_planned}
 use Rattle.mw_plan.specs.PlansOf.{CanBeMade, IsPlaneSource, planes_read}
-use Rattle.mw_c_direct.specs.Kept.{IsMade, IsThereIfMade, IsWanted, kept_at}
+use Rattle.mw_c_direct.specs.Kept.{IsThereIfMade, IsWanted, SourceIsMade, kept_at}
 
 -- the planes of the plan on the image
 abbrev pub planes_on : Plan → Picture → List Picture
@@ -31,7 +31,7 @@ pub record IsRunnable (plan : Plan) (image : Picture) : Type 0 where
 pub record CanBeNext (plan : Plan) (made : List Bool) (k j : ℕ) : Type 0 where
   pub before : j < k
   pub unmade : flag made j ≡ false
-  pub sources : AllByRecursion (IsMade made) (slice_index_or plan j nothing_planned).sources
+  pub sources : AllByRecursion (SourceIsMade made) (slice_index_or plan j nothing_planned).sources
 
 -- Some steps of the plan are made. What is kept is a step's plane, and it is kept exactly while a step that is not made yet reads it.
 pub record HasRun (plan : Plan) (image : Picture) (made : List Bool) (kept : List (Option Picture)) : Type 0 where

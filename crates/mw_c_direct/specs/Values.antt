@@ -4,7 +4,7 @@ use Rattle.std.specs.Borrow.{Bor}
 use Rattle.std.specs.Arc.{arc_value}
 use Rattle.std.specs.declared.sync.Arc.{Arc}
 use Rattle.std.proofs.Common.{Global}
-use Rattle.mw_model.specs.declared.places.Offset.{Offset}
+use Rattle.mw_model.specs.declared.offsets.Offset.{Offset}
 use Rattle.mw_model.specs.Elements.{Figure}
 use Rattle.mw_model.specs.Pictures.{Picture, IsImage}
 use Rattle.mw_model.specs.Values.{Value, ImageValue, ElementValue, CurveValue}
@@ -32,9 +32,9 @@ abbrev pub values_given : Picture → Option Figure → Option Figure → List (
 values_given image b c = Some (ImageValue image) ∷ option_map (λ e. ElementValue e) b ∷ option_map (λ e. ElementValue e) c ∷ []
 
 -- the image or the curve as a value
-abbrev pub value_made : Made → Value
-value_made (made.Image f) = ImageValue f
-value_made (made.Curve volumes) = CurveValue volumes
+abbrev pub value_of_made : Made → Value
+value_of_made (made.Image f) = ImageValue f
+value_of_made (made.Curve volumes) = CurveValue volumes
 
 -- it is an image, and this one
 abbrev pub IsImageMade : Picture → Made → Type 0

@@ -7,16 +7,15 @@ ghost use Rattle.mw_model.specs.Plans.{numbers_from};
 ghost use Rattle.mw_model.specs.Refusals.{is_image};
 ghost use Rattle.mw_model.specs.Values.{result_of, shape_of_picture};
 ghost use Rattle.mw_plan.specs.Asked.{IsRefusedBy, fault_in, is_image_input, shape_made};
-ghost use Rattle.mw_plan.specs.PlansOf.{IsPlanOf};
 ghost use Rattle.mw_plan.specs.Steps.{operator_of};
-ghost use Rattle.mw_c_direct.specs.Values.{IsImageMade, IsSoundMade, figure_given, input_given, offsets_given, value_made, values_given};
+ghost use Rattle.mw_c_direct.specs.Values.{IsImageMade, IsSoundMade, figure_given, input_given, offsets_given, value_of_made, values_given};
 
 use crate::running::{last_plane, numbers};
 use mw_element::Element;
-use mw_gran::Curve;
+use mw_gran::{Curve, plan_of_any};
 use mw_model::{GranOp, Op};
 use mw_pixel::Image;
-use mw_plan::{Input, Plan, PlanFault};
+use mw_plan::{Input, PlanFault};
 use std::alloc::Global;
 use std::sync::Arc;
 
@@ -25,23 +24,6 @@ use std::sync::Arc;
 pub enum Made {
     Image(Image),
     Curve(Curve),
-}
-
-/// A plan of the operation.
-fn plan_of(
-    alloc: Global,
-    op: &Op,
-    a: Input<'_>,
-    b: Input<'_>,
-    c: Input<'_>,
-) -> Result<Plan, PlanFault>
-    ensures refused { IsRefusedBy (fault_in op.now a.entry b.entry c.entry) result }
-    ensures plan { IfOk result (IsPlanOf op.now a.entry b.entry c.entry) }
-{
-    match op {
-        Op::Flat(flat) => mw_plan::plan_of(alloc, flat, a, b, c),
-        Op::Gran(gran) => mw_gran::plan_of(alloc, gran, a, b, c),
-    }
 }
 
 /// Whether an operation on an image gives an image.
@@ -66,7 +48,7 @@ fn input(element: Option<&Arc<Element>>) -> Input<'_>
 }
 
 /// What holds of every image. It does nothing.
-fn is_sound(image: &Image)
+fn facts_of(image: &Image)
     ensures picture { IsPicture image.now }
     ensures maxval { FitsKind image.now.kind image.now.maxval }
 {
@@ -85,17 +67,17 @@ pub fn apply(
 ) -> Result<Made, PlanFault>
     requires { IsImage image.now }
     ensures refused { IsRefusedBy (fault_in op.now (Input.Image (shape_of_picture image.now)) (input_given b.entry) (input_given c.entry)) result }
-    ensures value { IfOk result (λ m. result_of op.now (values_given image.now (figure_given b.entry) (figure_given c.entry)) ≡ Some (value_made m)) }
+    ensures value { IfOk result (λ m. result_of op.now (values_given image.now (figure_given b.entry) (figure_given c.entry)) ≡ Some (value_of_made m)) }
     // An image that was made may be given again.
     ensures sound { IfOk result IsSoundMade }
     ensures operator { (flat : FlatOp) → op.now ≡ Op.Flat flat → IfOk result (IsImageMade (operator_of flat (offsets_given (figure_given b.entry)) (offsets_given (figure_given c.entry)) image.now)) }
 {
     let a = Input::Image(image.shape());
-    let plan = plan_of(alloc, op, a, input(b), input(c))?;
+    let plan = plan_of_any(alloc, op, a, input(b), input(c))?;
     if draws(op, a) {
         let plane = last_plane(alloc, &plan, image)?;
         // for the maxval
-        is_sound(&plane);
+        facts_of(&plane);
         Ok(Made::Image(plane))
     } else {
         Ok(Made::Curve(Curve::of(numbers(alloc, &plan, image)?)))

@@ -3,9 +3,8 @@
 ghost use Rattle.std.specs.Prelude.{◌≡◌, [], ◌∷◌, false, true, IfOk};
 ghost use Rattle.mw_model.specs.Plans.{is_sum, plane_of};
 ghost use Rattle.mw_plan.specs.Seen.{planned};
-ghost use Rattle.mw_step_task.specs.Meanings.{meaning};
 ghost use Rattle.mw_step_task.specs.WindowTasks.{made_of_windows};
-ghost use Rattle.mw_c_direct.specs.Kept.{IsDone, IsReady, sources_kept};
+ghost use Rattle.mw_c_direct.specs.Kept.{IsReady, IsWholeTask, sources_kept};
 ghost use Rattle.mw_c_direct.specs.Products.{IsProduct};
 
 use crate::seeing::windows;
@@ -13,7 +12,7 @@ use mw_grid::whole_frame;
 use mw_model::{NoMemory, TaskId};
 use mw_pixel::Image;
 use mw_plan::PlannedStep;
-use mw_step_task::{Step, TileDone, TileResult, Work};
+use mw_step_task::{TileDone, TileResult, Work};
 use std::alloc::Global;
 
 /// A task wants numbers, which nobody looks at here.
@@ -38,7 +37,7 @@ fn done(
     planes: &[Option<Image>],
 ) -> Result<TileDone, NoMemory>
     requires { IsReady image.now planes.now (planned step.now) }
-    ensures { IfOk result (IsDone image.now planes.now (planned step.now)) }
+    ensures { IfOk result (IsWholeTask image.now planes.now (planned step.now)) }
 {
     let frame = whole_frame(image.width(), image.height());
     let windows = windows(alloc, step.sources, image, planes)?;
@@ -48,16 +47,6 @@ fn done(
             Err(_refused) => Err(NoMemory),
         },
         None => unreachable!(),
-    }
-}
-
-/// Whether the step makes a number.
-pub(crate) fn sums_up(step: &Step) -> bool
-    ensures { result ≡ is_sum (meaning step.now) }
-{
-    match step {
-        Step::Sum => true,
-        _ => false,
     }
 }
 
@@ -83,7 +72,7 @@ pub(crate) fn made(
     ensures { IfOk result (IsProduct (planned step.now).step (plane_of (planned step.now).step (sources_kept image.now planes.now (planned step.now)) image.now.width image.now.height)) }
 {
     let done = done(alloc, step, image, planes)?;
-    if sums_up(&step.step) {
+    if step.step.is_sum() {
         Ok(Product::Number(number(done)))
     } else {
         Ok(Product::Plane(done.into_image()))

@@ -7,7 +7,7 @@ ghost use Rattle.std.specs.Prelude.{◌≡◌, ◌<◌, ◌↔◌, length, slice
 ghost use Rattle.std.specs.List.{AllByRecursion};
 ghost use Rattle.mw_model.specs.Tasks.{flag, nothing_planned};
 ghost use Rattle.mw_plan.specs.Seen.{source, sources};
-ghost use Rattle.mw_c_direct.specs.Kept.{IsMade};
+ghost use Rattle.mw_c_direct.specs.Kept.{SourceIsMade};
 ghost use Rattle.mw_c_direct.specs.Runs.{CanBeNext, HasSteps};
 
 use mw_plan::{Plan, Source, Sources};
@@ -20,7 +20,7 @@ fn is_step_made(made: &[bool], k: usize) -> bool
 
 /// Whether a source is the image, or a step that is made.
 fn is_made(made: &[bool], from: Source) -> bool
-    ensures { IsTrue result ↔ IsMade made.now (source from) }
+    ensures { IsTrue result ↔ SourceIsMade made.now (source from) }
 {
     match from {
         Source::Input(_) => true,
@@ -29,7 +29,7 @@ fn is_made(made: &[bool], from: Source) -> bool
 }
 
 fn are_made(made: &[bool], from: Sources) -> bool
-    ensures { IsTrue result ↔ AllByRecursion (IsMade made.now) (sources from) }
+    ensures { IsTrue result ↔ AllByRecursion (SourceIsMade made.now) (sources from) }
 {
     match from {
         Sources::Nothing => true,
@@ -44,7 +44,7 @@ fn are_made(made: &[bool], from: Sources) -> bool
 pub(crate) fn next_before(plan: &Plan, made: &[bool], k: usize) -> Option<usize>
     requires steps { HasSteps plan.now }
     requires within { k < length plan.now }
-    ensures none { IfNone result (AllByRecursion (IsMade made.now) (slice_index_or plan.now k nothing_planned).sources) }
+    ensures none { IfNone result (AllByRecursion (SourceIsMade made.now) (slice_index_or plan.now k nothing_planned).sources) }
     ensures some { IfSome result (CanBeNext plan.now made.now k) }
 {
     if are_made(made, plan.step(k).sources) {

@@ -5,11 +5,11 @@ ghost use Rattle.std.specs.List.{AllByRecursion};
 ghost use Rattle.mw_model.specs.Pictures.{Picture};
 ghost use Rattle.mw_model.specs.Plans.{is_sum, no_picture, numbers_from};
 ghost use Rattle.mw_model.specs.Tasks.{flag, nothing_planned};
-ghost use Rattle.mw_c_direct.specs.Kept.{IsEmpty, IsMade};
-ghost use Rattle.mw_c_direct.specs.Products.{IsNumberOf, number_in, put};
+ghost use Rattle.mw_c_direct.specs.Kept.{IsEmpty, SourceIsMade};
+ghost use Rattle.mw_c_direct.specs.Products.{IsNumberOf, number_made, put};
 ghost use Rattle.mw_c_direct.specs.Runs.{HasRun, IsRunnable, planes_on};
 
-use crate::making::{Product, made, sums_up};
+use crate::making::{Product, made};
 use crate::order::next_before;
 use crate::spent::{drop_spent, drop_unwanted};
 use mw_model::NoMemory;
@@ -53,7 +53,7 @@ impl Run {
         requires { k < length self.old.planes.items }
         ensures planes { self.new.planes.items ≡ put self.old.planes.items k product }
         ensures made { self.new.made.items ≡ self.old.made.items }
-        ensures number { result ≡ number_in product }
+        ensures number { result ≡ number_made product }
     {
         match product {
             Product::Plane(plane) => {
@@ -76,7 +76,7 @@ impl Run {
         requires within { k < length plan.now }
         requires run { HasRun plan.now image.now self.old.made.items self.old.planes.items }
         requires unmade { flag self.old.made.items k ≡ false }
-        requires sources { AllByRecursion (IsMade self.old.made.items) (slice_index_or plan.now k nothing_planned).sources }
+        requires sources { AllByRecursion (SourceIsMade self.old.made.items) (slice_index_or plan.now k nothing_planned).sources }
         ensures run { OnOk result (HasRun plan.now image.now self.new.made.items self.new.planes.items) }
         ensures made { OnOk result (self.new.made.items ≡ slice_set self.old.made.items k true) }
         ensures number { IfOk result (IsNumberOf (slice_index_or plan.now k nothing_planned).step (slice_index_or (planes_on plan.now image.now) k no_picture)) }
@@ -102,7 +102,7 @@ impl Run {
         requires within { k < length plan.now }
         requires run { HasRun plan.now image.now self.old.made.items self.old.planes.items }
         ensures run { OnOk result (HasRun plan.now image.now self.new.made.items self.new.planes.items) }
-        ensures sources { OnOk result (AllByRecursion (IsMade self.new.made.items) (slice_index_or plan.now k nothing_planned).sources) }
+        ensures sources { OnOk result (AllByRecursion (SourceIsMade self.new.made.items) (slice_index_or plan.now k nothing_planned).sources) }
         ensures later { OnOk result ((i : ℕ) → k ≤ i → flag self.new.made.items i ≡ flag self.old.made.items i) }
     {
         'steps: while let Some(j) = next_before(plan, &self.made, k) {
@@ -135,7 +135,7 @@ pub(crate) fn numbers(alloc: Global, plan: &Plan, image: &Image) -> Result<Vec<u
     let mut run = Run::new(alloc, plan)?;
     let mut numbers = Vec::new(alloc);
     'steps: for k in 0..plan.len() {
-        if sums_up(&plan.step(k).step) {
+        if plan.step(k).step.is_sum() {
             run.provide(alloc, plan, image, k)?;
             if let Some(n) = run.advance(alloc, plan, image, k)? {
                 numbers.push(n)?;

@@ -54,7 +54,7 @@ pub(crate) fn drop_unwanted(plan: &Plan, made: &[bool], k: usize, planes: &mut V
     }
 }
 
-/// The same of the step that a source is.
+/// Drops the plane of the step that a source is, if no step that is not made yet reads it.
 fn drop_one(plan: &Plan, made: &[bool], from: Source, planes: &mut Vec<Option<Image>>)
     requires { length made.now ≡ length plan.now }
     ensures keeps { KeepsRead plan.now made.now planes.old.items planes.new.items }
@@ -65,7 +65,7 @@ fn drop_one(plan: &Plan, made: &[bool], from: Source, planes: &mut Vec<Option<Im
     }
 }
 
-/// The same of the steps among the sources.
+/// Drops the planes of the steps among the sources that no step that is not made yet reads.
 pub(crate) fn drop_spent(plan: &Plan, made: &[bool], from: Sources, planes: &mut Vec<Option<Image>>)
     requires { length made.now ≡ length plan.now }
     ensures keeps { KeepsRead plan.now made.now planes.old.items planes.new.items }

@@ -1,13 +1,14 @@
 -- What steps make of a strip is what their planes have there.
 use Rattle.std.proofs.Common.{◌≡◌, ℕ, ◌+◌, ◌-◌, ◌<◌, ◌≤◌, Bool, false, List, [], ◌∷◌, min, refl, ap, sym, subst, arith, ◌∙◌, zero-add}
 use Rattle.std.specs.Prelude.{sum, if◌then◌else◌, slice_index_or}
-use Rattle.mw_model.specs.declared.places.Rect.{Rect}
-use Rattle.mw_model.specs.declared.places.Reach.{Reach}
+use Rattle.mw_model.specs.declared.limits.TheConstants.{SIDE_LIMIT}
+use Rattle.mw_model.specs.declared.offsets.Rect.{Rect}
+use Rattle.mw_model.specs.declared.offsets.Reach.{Reach}
 use Rattle.mw_model.specs.Elements.{reach_of}
 use Rattle.mw_model.specs.Flat.{minus}
 use Rattle.mw_model.specs.Laws.{SameShape}
 use Rattle.mw_model.specs.Pictures.{IsImage, Picture, picture, sample, sample_at}
-use Rattle.mw_model.specs.Places.{IsWithin, grown, rect}
+use Rattle.mw_model.specs.Rectangles.{IsWithin, grown, rect}
 use Rattle.mw_model.specs.PlanSteps.{Minus, PlanStep, here, kind_of_step, looks_at, maxval_of_step, step_at}
 use Rattle.mw_model.specs.Plans.{is_sum, no_picture, plane_of, sight_of}
 use Rattle.mw_model.specs.Tasks.{cells_in, made_of_planes, place_read}
@@ -84,7 +85,7 @@ two_cut a b r ws alike whole is = record {
   cut = is ∙ ap (λ (t : Rect). window_of t a ∷ window_of t b ∷ []) (whole ∙ sym (grown_whole a.width a.height (reach_of (looks_at Minus))) ∙ ap (λ (t : Rect). place_read Minus a.width a.height t) (sym whole));
 }
 
-pub two_fit : (a b : Picture) (r : Rect) (ws : List SourceWindow) → SameShape b a → r ≡ rect 0 0 a.width a.height → ws ≡ window_of r a ∷ window_of r b ∷ [] → (1 ≤ a.width) × (a.width ≤ 8192) → (1 ≤ a.height) × (a.height ≤ 8192) → FitsStep Minus r ws
+pub two_fit : (a b : Picture) (r : Rect) (ws : List SourceWindow) → SameShape b a → r ≡ rect 0 0 a.width a.height → ws ≡ window_of r a ∷ window_of r b ∷ [] → (1 ≤ a.width) × (a.width ≤ SIDE_LIMIT) → (1 ≤ a.height) × (a.height ≤ SIDE_LIMIT) → FitsStep Minus r ws
 two_fit a b r ws alike whole is wide high =
     let across : r.width ≡ a.width = ap (λ (t : Rect). t.width) whole in
     let down : r.height ≡ a.height = ap (λ (t : Rect). t.height) whole in

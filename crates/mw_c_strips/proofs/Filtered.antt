@@ -1,6 +1,6 @@
 -- What rules make of images, and openings, closings and top-hats of them.
 use Rattle.std.proofs.Common.{◌≡◌, ℕ, ◌*◌, List, refl, ap, sym, subst, ◌∙◌}
-use Rattle.mw_model.specs.declared.places.Offset.{Offset}
+use Rattle.mw_model.specs.declared.offsets.Offset.{Offset}
 use Rattle.mw_model.specs.Flat.{minus, reflected}
 use Rattle.mw_model.specs.Laws.{SameShape}
 use Rattle.mw_model.specs.Pictures.{IsImage, IsPicture, Picture}
@@ -9,13 +9,13 @@ use Rattle.mw_plan.specs.Steps.{filtering, other, residue, sliding}
 use Rattle.mw_plan.specs.declared.extremum.ExtremumKind.{ExtremumKind}
 use Rattle.mw_plan.specs.declared.extremum.ExtremumKind.TheVariants.{Least, Greatest}
 use Rattle.mw_c_arrays.specs.declared.sources.ArrayImage.{ArrayImage}
-use Rattle.mw_c_arrays.specs.Sources.{IsSource, picture_in, source_count}
+use Rattle.mw_c_arrays.specs.Sources.{IsArrayImage, array_sample_count, picture_in}
 use Rattle.mw_c_arrays.proofs.SourceImages.{source_image, source_samples}
-use Rattle.mw_c_strips.specs.Layers.{rest}
+use Rattle.mw_c_strips.specs.Layers.{filter_residue}
 use Rattle.mw_c_strips.specs.Parts.{refilled}
 
 -- so many samples fill the sides
-pub fills : (f : ArrayImage) → IsSource f → source_count f ≡ (picture_in f).height * (picture_in f).width
+pub fills : (f : ArrayImage) → IsArrayImage f → array_sample_count f ≡ (picture_in f).height * (picture_in f).width
 fills f is = sym (source_samples f) ∙ (source_image f is).picture.size
 
 slid_picture : (x : ExtremumKind) (e : List Offset) (f : Picture) → IsPicture f → IsPicture (sliding x e f)
@@ -60,7 +60,7 @@ filtered_shape Greatest e f = record { kind = refl; width = refl; height = refl;
 
 -- ---- planes between two steps
 
-pub same_count : (f g : ArrayImage) (samples : List ℕ) → IsSource f → IsSource g → picture_in g ≡ refilled (picture_in f) samples → source_count f ≡ source_count g
+pub same_count : (f g : ArrayImage) (samples : List ℕ) → IsArrayImage f → IsArrayImage g → picture_in g ≡ refilled (picture_in f) samples → array_sample_count f ≡ array_sample_count g
 same_count f g samples first second is =
     fills f first ∙ sym (fills g second ∙ ap (λ (h : Picture). h.height * h.width) is)
 
@@ -86,6 +86,6 @@ pub turned_shape : (f g : Picture) → SameShape f g → SameShape g f
 turned_shape f g alike = record { kind = sym alike.kind; width = sym alike.width; height = sym alike.height; maxval = sym alike.maxval }
 
 -- what is left over of a filtered image
-pub rest_is : (x : ExtremumKind) (e : List Offset) (f h : Picture) → h ≡ filtering x e f → rest x f h ≡ residue x e f
+pub rest_is : (x : ExtremumKind) (e : List Offset) (f h : Picture) → h ≡ filtering x e f → filter_residue x f h ≡ residue x e f
 rest_is Least e f h is = ap (λ (g : Picture). minus f g) is
 rest_is Greatest e f h is = ap (λ (g : Picture). minus g f) is

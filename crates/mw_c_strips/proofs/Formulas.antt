@@ -1,10 +1,11 @@
 -- The images of layers and formulas.
 use Rattle.std.proofs.Common.{◌≡◌, ℕ, ◌+◌, ◌≤◌, List, [], ◌∷◌, refl, ap, sym, subst, arith, ◌∙◌}
-use Rattle.mw_model.specs.declared.places.Rect.{Rect}
+use Rattle.mw_model.specs.declared.limits.TheConstants.{SIDE_LIMIT}
+use Rattle.mw_model.specs.declared.offsets.Rect.{Rect}
 use Rattle.mw_model.specs.Flat.{minus}
 use Rattle.mw_model.specs.Laws.{SameShape}
 use Rattle.mw_model.specs.Pictures.{IsPicture, Picture}
-use Rattle.mw_model.specs.Places.{rect}
+use Rattle.mw_model.specs.Rectangles.{rect}
 use Rattle.mw_model.proofs.ImageLaws.{dilation_picture, erosion_picture, minus_picture, rank_picture, threshold_picture}
 use Rattle.mw_tile.specs.Windows.{SourceWindow, window_of}
 use Rattle.mw_step_task.proofs.Cut.{plane_of_one}
@@ -12,7 +13,7 @@ use Rattle.std.specs.Prelude.{cond, nat_le}
 use Rattle.std.specs.Arc.{arc_value}
 use Rattle.mw_model.specs.declared.shapes.Kind.TheVariants as kind
 use Rattle.mw_c_arrays.proofs.SourceImages.{source_image}
-use Rattle.mw_c_strips.specs.Origins.{IsOrigin, picture_of}
+use Rattle.mw_c_strips.specs.Origins.{IsOrigin, origin_picture}
 use Rattle.mw_c_strips.proofs.OriginImages.{origin_image}
 use Rattle.mw_c_strips.specs.declared.layers.Formula.{Formula}
 use Rattle.mw_c_strips.specs.declared.layers.Formula.TheVariants.{One, Less}
@@ -25,8 +26,8 @@ use Rattle.mw_c_strips.specs.Parts.{IsStrip, part_of, whole_window}
 
 -- the sides of an image
 pub record HasSides (f : Picture) : Type 0 where
-  pub wide : (1 ≤ f.width) × (f.width ≤ 8192)
-  pub high : (1 ≤ f.height) × (f.height ≤ 8192)
+  pub wide : (1 ≤ f.width) × (f.width ≤ SIDE_LIMIT)
+  pub high : (1 ≤ f.height) × (f.height ≤ SIDE_LIMIT)
 
 pub layer_sides : (l : Layer) → IsOrigin (origin_of l) → HasSides (layer_picture l)
 layer_sides (Itself f) is = let image = source_image f is in record { wide = image.width; high = image.height }
@@ -39,7 +40,7 @@ strip_below r f strip is = record { left = is.left; wide = is.wide; some = is.so
 pub strip_above : (r : Rule) (f : Picture) (strip : Rect) → IsStrip strip f → IsStrip strip (rule_picture r f)
 strip_above r f strip is = record { left = is.left; wide = is.wide; some = is.some; low = is.low }
 
--- the same of the two images of a difference
+-- a strip of a difference is one of each of its two images
 pub strip_first : (a b : Picture) (strip : Rect) → IsStrip strip (minus a b) → IsStrip strip a
 strip_first a b strip is = record { left = is.left; wide = is.wide; some = is.some; low = is.low }
 
@@ -83,7 +84,7 @@ rule_is_picture (rules.AtLeast k) f is = subst (λ (g : Picture). IsPicture g) (
 
 pub layer_is_picture : (l : Layer) → IsOrigin (origin_of l) → IsPicture (layer_picture l)
 layer_is_picture (Itself f) is = (source_image f is).picture
-layer_is_picture (By r f) is = rule_is_picture r (picture_of f) (origin_image f is).picture
+layer_is_picture (By r f) is = rule_is_picture r (origin_picture f) (origin_image f is).picture
 
 pub formula_is_picture : (x : Formula) → IsFormula x → IsPicture (formula_picture x)
 formula_is_picture (One l) is = layer_is_picture l is
@@ -93,11 +94,11 @@ pub formula_sides : (x : Formula) → IsFormula x → HasSides (formula_picture 
 formula_sides (One l) is = layer_sides l is
 formula_sides (Less a b) is = let sides = layer_sides a is.0 in record { wide = sides.wide; high = sides.high }
 
-layer_frame : (l : Layer) → ((layer_picture l).width ≡ (picture_of (origin_of l)).width) × ((layer_picture l).height ≡ (picture_of (origin_of l)).height)
+layer_frame : (l : Layer) → ((layer_picture l).width ≡ (origin_picture (origin_of l)).width) × ((layer_picture l).height ≡ (origin_picture (origin_of l)).height)
 layer_frame (Itself f) = (refl, refl)
 layer_frame (By r f) = (refl, refl)
 
 -- their frame is that of the image that is looked at first
-pub formula_frame : (x : Formula) → ((formula_picture x).width ≡ (picture_of (first_origin x)).width) × ((formula_picture x).height ≡ (picture_of (first_origin x)).height)
+pub formula_frame : (x : Formula) → ((formula_picture x).width ≡ (origin_picture (first_origin x)).width) × ((formula_picture x).height ≡ (origin_picture (first_origin x)).height)
 formula_frame (One l) = layer_frame l
 formula_frame (Less a b) = layer_frame a

@@ -5,9 +5,9 @@ mod Cutting
 mod UnderOffsets
 mod RowCells
 mod OriginImages
-mod Marked
+mod ByteTables
 mod Gathered
-mod PlainValues
+mod PixelValues
 mod SmallLevels
 mod Refilled
 mod Standing

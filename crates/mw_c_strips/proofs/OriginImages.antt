@@ -6,9 +6,9 @@ use Rattle.mw_model.specs.Pictures.{FitsKind, IsImage, Picture}
 use Rattle.mw_c_arrays.proofs.SourceImages.{source_image}
 use Rattle.mw_c_strips.specs.declared.origins.Origin.{Origin}
 use Rattle.mw_c_strips.specs.declared.origins.Origin.TheVariants.{Array, Made}
-use Rattle.mw_c_strips.specs.Origins.{IsOrigin, picture_of}
+use Rattle.mw_c_strips.specs.Origins.{IsOrigin, origin_picture}
 
-pub origin_image : (f : Origin) → IsOrigin f → IsImage (picture_of f)
+pub origin_image : (f : Origin) → IsOrigin f → IsImage (origin_picture f)
 origin_image (Array f) is = source_image f is
 origin_image (Made f) is = is
 

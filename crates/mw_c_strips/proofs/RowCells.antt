@@ -5,10 +5,10 @@ use Rattle.std.proofs.lemmas.List.{length-map}
 use Rattle.std.proofs.lemmas.List.Elements.{All-drop, All-take}
 use Rattle.std.proofs.lemmas.Nat.{mul-le, mul-add-lt}
 use Rattle.std.proofs.Math.Nat.{mul_comm}
-use Rattle.mw_model.specs.declared.places.Rect.{Rect}
+use Rattle.mw_model.specs.declared.offsets.Rect.{Rect}
 use Rattle.mw_model.specs.declared.shapes.Kind.TheVariants as kind
 use Rattle.mw_model.specs.Pictures.{Picture, picture, sample}
-use Rattle.mw_c_arrays.specs.Arrays.{set_of}
+use Rattle.mw_c_arrays.specs.Arrays.{set_in_bytes}
 use Rattle.mw_model.specs.Tasks.{cells_in}
 use Rattle.mw_tile_pieces.proofs.TileCells.{cells_in_is}
 use Rattle.mw_c_strips.specs.Parts.{IsStrip, part_of}
@@ -63,12 +63,12 @@ pub grey_rows : (f : Picture) (r : Rect) (cells : List ℕ) → IsStrip r f → 
 grey_rows f r cells strip size is = ap (λ (ns : List ℕ). picture f.kind r.width r.height f.maxval ns) (is ∙ rows_are f r strip size)
 
 -- and those of the set of some bytes
-pub set_rows : (w h : ℕ) (bytes cells : List ℕ) (r : Rect) → IsStrip r (set_of w h bytes) → length bytes ≡ h * w → cells ≡ slice_range bytes (r.y * r.width) (r.y * r.width + r.height * r.width)
-    → set_of r.width r.height cells ≡ part_of (set_of w h bytes) r
+pub set_rows : (w h : ℕ) (bytes cells : List ℕ) (r : Rect) → IsStrip r (set_in_bytes w h bytes) → length bytes ≡ h * w → cells ≡ slice_range bytes (r.y * r.width) (r.y * r.width + r.height * r.width)
+    → set_in_bytes r.width r.height cells ≡ part_of (set_in_bytes w h bytes) r
 set_rows w h bytes cells r strip size is =
     let one : ℕ → ℕ = λ s. if nat_le 1 s then 1 else 0 in
-    ap (λ (ns : List ℕ). set_of r.width r.height ns) is
-    ∙ ap (λ (ns : List ℕ). picture kind.Bit r.width r.height 1 ns) (map-range one bytes (r.y * r.width) (r.height * r.width) ∙ rows_are (set_of w h bytes) r strip (length-map bytes one ∙ size))
+    ap (λ (ns : List ℕ). set_in_bytes r.width r.height ns) is
+    ∙ ap (λ (ns : List ℕ). picture kind.Bit r.width r.height 1 ns) (map-range one bytes (r.y * r.width) (r.height * r.width) ∙ rows_are (set_in_bytes w h bytes) r strip (length-map bytes one ∙ size))
 
 -- what holds of all samples holds of those of a strip
 pub all_range : (P : ℕ → Type 0) (xs : List ℕ) (a b : ℕ) → All P xs → All P (slice_range xs a b)

@@ -4,10 +4,10 @@ use Rattle.std.specs.Prelude.{nat_le, ◌==◌}
 use Rattle.std.proofs.lemmas.Bool.{and_parts, cases_lt, eqb-true, le-leb, leb-true, lt-leb}
 use Rattle.std.proofs.lemmas.List.{take_all}
 use Rattle.std.proofs.lemmas.Nat.{div-add-mod', mod-mul-add, mul-le}
-use Rattle.mw_model.specs.declared.places.Rect.{Rect}
+use Rattle.mw_model.specs.declared.offsets.Rect.{Rect}
 use Rattle.mw_model.specs.Pictures.{Picture}
 use Rattle.mw_c_arrays.specs.declared.sources.ArrayImage.{ArrayImage}
-use Rattle.mw_c_arrays.specs.Sources.{IsSource, picture_in, source_count}
+use Rattle.mw_c_arrays.specs.Sources.{IsArrayImage, array_sample_count, picture_in}
 use Rattle.mw_c_strips.specs.Parts.{IsStrip}
 use Rattle.mw_c_strips.specs.Rows.{AreRows, EndAt, are_rows, fill_rows, rows_from}
 use Rattle.mw_c_strips.proofs.Filtered.{fills}
@@ -119,10 +119,10 @@ stand_behind above room count le =
     ]
 
 -- the image has these rows
-pub rows_there : (f : ArrayImage) (first room : ℕ) → IsSource f → are_rows first room (picture_in f).width (source_count f) ≡ true → AreRows first room (picture_in f)
+pub rows_there : (f : ArrayImage) (first room : ℕ) → IsArrayImage f → are_rows first room (picture_in f).width (array_sample_count f) ≡ true → AreRows first room (picture_in f)
 rows_there f first room is all =
     let w = (picture_in f).width in
-    let outer = and_parts (nat_le 1 room && fill_rows room w) (nat_le (first * w + room) (source_count f)) all in
+    let outer = and_parts (nat_le 1 room && fill_rows room w) (nat_le (first * w + room) (array_sample_count f)) all in
     let inner = and_parts (nat_le 1 room) (fill_rows room w) outer.0 in
     let filled = and_parts (nat_le 1 w) (room % w == 0) inner.1 in
-    record { some = leb-true 1 room inner.0; whole = eqb-true (room % w) 0 filled.1; within = omega (arith, leb-true (first * w + room) (source_count f) outer.1, fills f is) }
+    record { some = leb-true 1 room inner.0; whole = eqb-true (room % w) 0 filled.1; within = omega (arith, leb-true (first * w + room) (array_sample_count f) outer.1, fills f is) }

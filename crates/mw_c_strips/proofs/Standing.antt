@@ -4,10 +4,10 @@ use Rattle.std.specs.Prelude.{Bool, None}
 use Rattle.std.proofs.lemmas.Option.{slice_get-get_or}
 use Rattle.std.proofs.lemmas.Nat.{mul-add-lt}
 use Rattle.std.proofs.Math.Nat.{mul_comm}
-use Rattle.mw_model.specs.declared.places.Rect.{Rect}
+use Rattle.mw_model.specs.declared.offsets.Rect.{Rect}
 use Rattle.mw_model.specs.declared.shapes.Kind.{Kind}
 use Rattle.mw_model.specs.Pictures.{Picture, picture, sample}
-use Rattle.mw_model.specs.Places.{Holds}
+use Rattle.mw_model.specs.Rectangles.{Holds}
 use Rattle.mw_model.specs.Tasks.{cells_in}
 use Rattle.mw_tile_pieces.specs.Patches.{cell_of, joint, patch}
 use Rattle.mw_tile_pieces.specs.Shared.{level_in, source_joint}

@@ -4,19 +4,19 @@ use Rattle.std.specs.Prelude.{slice_set}
 use Rattle.std.proofs.lemmas.Bool.{cases_lt}
 use Rattle.std.proofs.lemmas.List.{get_or-map, length-map}
 use borrow.Rule.Slice.PartMut.{put_mid}
-use Rattle.mw_model.specs.declared.places.Rect.{Rect}
+use Rattle.mw_model.specs.declared.offsets.Rect.{Rect}
 use Rattle.mw_model.specs.Pictures.{Picture, sample}
 use Rattle.mw_model.specs.Tasks.{cells_in}
 use Rattle.mw_model.proofs.mw_facts.Parts.{get_or-put_mid_below, get_or-put_mid_within}
 use Rattle.mw_tile_pieces.proofs.TileCells.{length-cells_in}
-use Rattle.mw_c_strips.specs.Parts.{HasCells, HasRows, IsStrip, part_of}
+use Rattle.mw_c_strips.specs.Parts.{HasCells, HasImageRows, IsStrip, part_of}
 use Rattle.mw_c_strips.specs.Rows.{EndAt, rows_from}
 use Rattle.mw_c_strips.proofs.RowCells.{get_or-range, rows_are}
 use Rattle.mw_c_strips.proofs.SomeRows.{length-rows_from}
 
 -- a strip's rows that are written behind those that are done
 pub rows_put : {A : Type 0} (level : A → ℕ) (f : Picture) (r : Rect) (first done : ℕ) (old part new : List A) → IsStrip r f → length f.samples ≡ f.height * f.width → r.y ≡ first + done → done * r.width + r.height * r.width ≤ length old
-    → map level part ≡ cells_in r (sample f) → new ≡ put_mid (done * r.width) (r.height * r.width) old part → HasRows level f first r.y old → HasRows level f first (r.y + r.height) new
+    → map level part ≡ cells_in r (sample f) → new ≡ put_mid (done * r.width) (r.height * r.width) old part → HasImageRows level f first r.y old → HasImageRows level f first (r.y + r.height) new
 rows_put {A} level f r first done old part new strip size row room is put before i d lt =
     elim (cases_lt i a) [
       | inl below ↦ ap (λ (xs : List A). level (get_or xs i d)) put ∙ ap level (get_or-put_mid_below a k old part i d (omega (arith, room)) below) ∙ before i d (omega (arith, below, same, start))
@@ -79,7 +79,7 @@ row_more {A} level f first k y w x old s row wide within is before i d lt =
     there = ap (λ (t : ℕ). first * t + (k * w + x)) (sym wide) ∙ join first k w x ∙ ap (λ (t : ℕ). t * w + x) (sym row)
 
 -- a row is full
-pub row_full : {A : Type 0} (level : A → ℕ) (f : Picture) (first y n : ℕ) (cells : List A) → n ≡ y * f.width + f.width → HasCells level f (first * f.width) n cells → HasRows level f first (y + 1) cells
+pub row_full : {A : Type 0} (level : A → ℕ) (f : Picture) (first y n : ℕ) (cells : List A) → n ≡ y * f.width + f.width → HasCells level f (first * f.width) n cells → HasImageRows level f first (y + 1) cells
 row_full level f first y n cells is before i d lt = before i d (omega (arith, lt, is, next y f.width))
   where
     next : (y w : ℕ) → (y + 1) * w ≡ y * w + w
@@ -93,7 +93,7 @@ level_there : {A : Type 0} (level : A → ℕ) (xs : List A) (i m : ℕ) → i <
 level_there level xs i m within is = let d = some_of xs i within in get_or-map level xs i d 0 within ∙ is d
 
 -- all rows that the array has
-pub all_cells : {A : Type 0} (level : A → ℕ) (f : Picture) (first end : ℕ) (cells : List A) → length f.samples ≡ f.height * f.width → EndAt first end (length cells) f → HasRows level f first end cells → map level cells ≡ rows_from first (length cells) f
+pub all_cells : {A : Type 0} (level : A → ℕ) (f : Picture) (first end : ℕ) (cells : List A) → length f.samples ≡ f.height * f.width → EndAt first end (length cells) f → HasImageRows level f first end cells → map level cells ≡ rows_from first (length cells) f
 all_cells {A} level f first end cells size ends rows =
     ext_get_or 0 (map level cells) (rows_from first (length cells) f) (length-map cells level ∙ sym (length-rows_from first end (length cells) f size ends)) (λ i p. each i (omega (arith, p, length-map cells level)))
   where
@@ -110,7 +110,7 @@ pub part_top : (f g : Picture) (r : Rect) → g ≡ part_of f r → g.maxval ≡
 part_top f g r is = ap (λ (h : Picture). h.maxval) is
 
 -- no row at first
-pub no_rows : {A : Type 0} (level : A → ℕ) (f : Picture) (first n : ℕ) (cells : List A) → n ≡ first → HasRows level f first n cells
+pub no_rows : {A : Type 0} (level : A → ℕ) (f : Picture) (first n : ℕ) (cells : List A) → n ≡ first → HasImageRows level f first n cells
 no_rows {A} level f first n cells none i d lt =
     let nothing : n * f.width ≡ first * f.width = ap (λ (t : ℕ). t * f.width) none in
     absurd (omega (arith, lt, nothing))

@@ -10,7 +10,7 @@ use Rattle.mw_model.specs.PlanSteps as plan
 use Rattle.mw_c_arrays.specs.Sources.{picture_in}
 use Rattle.mw_c_strips.specs.declared.origins.Origin.{Origin}
 use Rattle.mw_c_strips.specs.declared.origins.Origin.TheVariants.{Array}
-use Rattle.mw_c_strips.specs.Origins.{IsOrigin, picture_of}
+use Rattle.mw_c_strips.specs.Origins.{IsOrigin, origin_picture}
 use Rattle.mw_plan.specs.declared.extremum.ExtremumKind.{ExtremumKind}
 use Rattle.mw_plan.specs.declared.extremum.ExtremumKind.TheVariants as extremum
 use Rattle.mw_c_strips.specs.declared.layers.Rule.{Rule}
@@ -44,7 +44,7 @@ first_origin (Less a b) = origin_of a
 -- the image of a layer
 abbrev pub layer_picture : Layer → Picture
 layer_picture (Itself f) = picture_in f
-layer_picture (By r f) = rule_picture r (picture_of f)
+layer_picture (By r f) = rule_picture r (origin_picture f)
 
 -- the image that a formula makes
 abbrev pub formula_picture : Formula → Picture
@@ -57,6 +57,6 @@ IsFormula (One l) = IsOrigin (origin_of l)
 IsFormula (Less a b) = IsOrigin (origin_of a) × IsOrigin (origin_of b) × SameShape (layer_picture b) (layer_picture a)
 
 -- the image less what is filtered of it where that is an opening, and turned where it is a closing
-abbrev pub rest : ExtremumKind → Picture → Picture → Picture
-rest extremum.Least f g = minus f g
-rest extremum.Greatest f g = minus g f
+abbrev pub filter_residue : ExtremumKind → Picture → Picture → Picture
+filter_residue extremum.Least f g = minus f g
+filter_residue extremum.Greatest f g = minus g f

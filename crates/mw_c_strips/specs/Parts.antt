@@ -1,11 +1,11 @@
 -- Strips of images (own).
 use Rattle.std.specs.Prelude.{◌≡◌, ℕ, ◌≤◌, ◌+◌, ◌*◌, ◌<◌, List, slice_index, slice_index_or}
-use Rattle.mw_model.specs.declared.places.Rect.{Rect}
+use Rattle.mw_model.specs.declared.offsets.Rect.{Rect}
 use Rattle.mw_model.specs.Pictures.{Picture, picture, sample}
 use Rattle.mw_model.specs.PlanSteps.{PlanStep, kind_of_step, maxval_of_step}
 use Rattle.mw_model.specs.Tasks.{cells_in}
-use Rattle.mw_grid.specs.Rectangles.{whole_frame}
-use Rattle.mw_tile.specs.Windows.{SourceWindow, window_of}
+use Rattle.mw_tile.specs.Windows.{SourceWindow}
+pub use Rattle.mw_tile.specs.Windows.{whole_window}
 use Rattle.mw_step_task.specs.WindowTasks.{made_of_windows, window_at}
 
 -- what an image has in a rectangle, as an image
@@ -23,10 +23,6 @@ pub record IsStrip (r : Rect) (f : Picture) : Type 0 where
   pub some : 1 ≤ r.height
   pub low : r.y + r.height ≤ f.height
 
--- the window that has the whole of an image
-abbrev pub whole_window : Picture → SourceWindow
-whole_window f = window_of (whole_frame f.width f.height) f
-
 -- the image that a step makes of windows in a tile
 abbrev pub made_picture : PlanStep → List SourceWindow → Rect → Picture
 made_picture s ws tile =
@@ -37,5 +33,5 @@ abbrev pub HasCells : {A : Type 0} → (A → ℕ) → Picture → ℕ → ℕ �
 HasCells {A} level f base n cells = (i : ℕ) (d : A) → base + i < n → level (slice_index_or cells i d) ≡ slice_index f.samples (base + i)
 
 -- the cells begin with the rows of the image from row `first` on, up to row n
-abbrev pub HasRows : {A : Type 0} → (A → ℕ) → Picture → ℕ → ℕ → List A → Type 0
-HasRows level f first n cells = HasCells level f (first * f.width) (n * f.width) cells
+abbrev pub HasImageRows : {A : Type 0} → (A → ℕ) → Picture → ℕ → ℕ → List A → Type 0
+HasImageRows level f first n cells = HasCells level f (first * f.width) (n * f.width) cells

@@ -7,9 +7,9 @@ ghost use Rattle.mw_model.specs.Flat.{gradient, minus, rank, reflected, threshol
 ghost use Rattle.mw_model.specs.Laws.{SameShape};
 ghost use Rattle.mw_model.specs.Pictures.{Picture};
 ghost use Rattle.mw_plan.specs.Steps.{filtering, other, residue, sliding};
-ghost use Rattle.mw_c_arrays.specs.Sources.{IsSource, picture_in, source_count};
-ghost use Rattle.mw_c_strips.specs.Layers.{rest, rule_picture};
-ghost use Rattle.mw_c_strips.specs.Origins.{IsOrigin, picture_of};
+ghost use Rattle.mw_c_arrays.specs.Sources.{IsArrayImage, array_sample_count, picture_in};
+ghost use Rattle.mw_c_strips.specs.Layers.{filter_residue, rule_picture};
+ghost use Rattle.mw_c_strips.specs.Origins.{IsOrigin, origin_picture};
 
 use crate::Sample;
 use crate::gathering::{levels_made, set_made};
@@ -57,8 +57,8 @@ fn one<P: Sample>(
     f: ArrayImage<'_>,
     out: &mut [P],
 ) -> Result<(), NoMemory>
-    requires sound { IsSource f }
-    requires room { length out.old ≡ source_count f }
+    requires sound { IsArrayImage f }
+    requires room { length out.old ≡ array_sample_count f }
     requires stands { P.stands (rule_picture rule (picture_in f)).maxval }
     ensures made { IfOk result (λ _. map P.level out.new ≡ (rule_picture rule.entry (picture_in f.entry)).samples) }
     ensures kept { IfErr result (λ _. out.new ≡ out.old) }
@@ -74,8 +74,8 @@ fn difference<P: Sample>(
     f: ArrayImage<'_>,
     out: &mut [P],
 ) -> Result<(), NoMemory>
-    requires sound { IsSource f }
-    requires room { length out.old ≡ source_count f }
+    requires sound { IsArrayImage f }
+    requires room { length out.old ≡ array_sample_count f }
     requires alike { SameShape (rule_picture lower (picture_in f)) (rule_picture upper (picture_in f)) }
     requires stands { P.stands (rule_picture upper (picture_in f)).maxval }
     ensures made { IfOk result (λ _. map P.level out.new ≡ (minus (rule_picture upper.entry (picture_in f.entry)) (rule_picture lower.entry (picture_in f.entry))).samples) }
@@ -99,9 +99,9 @@ fn filter_set<P: Sample>(
     b: &Arc<Element>,
     out: &mut [P],
 ) -> Result<(), NoMemory>
-    requires sound { IsSource f }
+    requires sound { IsArrayImage f }
     requires set { (picture_in f).kind ≡ kind.Bit }
-    requires room { length out.old ≡ source_count f }
+    requires room { length out.old ≡ array_sample_count f }
     requires stands { P.stands (picture_in f).maxval }
     ensures made { IfOk result (λ _. map P.level out.new ≡ (filtering extremum (arc_value b.now).offsets (picture_in f.entry)).samples) }
     ensures kept { IfErr result (λ _. out.new ≡ out.old) }
@@ -120,9 +120,9 @@ fn filter_levels<P: Sample>(
     b: &Arc<Element>,
     out: &mut [P],
 ) -> Result<(), NoMemory>
-    requires sound { IsSource f }
+    requires sound { IsArrayImage f }
     requires grey { (picture_in f).kind ≡ kind.Grey }
-    requires room { length out.old ≡ source_count f }
+    requires room { length out.old ≡ array_sample_count f }
     requires stands { P.stands (picture_in f).maxval }
     ensures made { IfOk result (λ _. map P.level out.new ≡ (filtering extremum (arc_value b.now).offsets (picture_in f.entry)).samples) }
     ensures kept { IfErr result (λ _. out.new ≡ out.old) }
@@ -141,8 +141,8 @@ pub fn filter_into<P: Sample>(
     b: &Arc<Element>,
     out: &mut [P],
 ) -> Result<(), NoMemory>
-    requires sound { IsSource f }
-    requires room { length out.old ≡ source_count f }
+    requires sound { IsArrayImage f }
+    requires room { length out.old ≡ array_sample_count f }
     requires stands { P.stands (picture_in f).maxval }
     ensures made { IfOk result (λ _. map P.level out.new ≡ (filtering extremum (arc_value b.now).offsets (picture_in f.entry)).samples) }
     ensures kept { IfErr result (λ _. out.new ≡ out.old) }
@@ -163,12 +163,12 @@ fn left_over<P: Sample>(
     back: &Arc<Element>,
     out: &mut [P],
 ) -> Result<(), NoMemory>
-    requires sound { IsSource f }
+    requires sound { IsArrayImage f }
     requires between { IsOrigin between }
-    requires alike { SameShape (picture_of between) (picture_in f) }
-    requires room { length out.old ≡ source_count f }
+    requires alike { SameShape (origin_picture between) (picture_in f) }
+    requires room { length out.old ≡ array_sample_count f }
     requires stands { P.stands (picture_in f).maxval }
-    ensures made { IfOk result (λ _. map P.level out.new ≡ (rest extremum (picture_in f.entry) (sliding (other extremum) (arc_value back.now).offsets (picture_of between.entry))).samples) }
+    ensures made { IfOk result (λ _. map P.level out.new ≡ (filter_residue extremum (picture_in f.entry) (sliding (other extremum) (arc_value back.now).offsets (origin_picture between.entry))).samples) }
     ensures kept { IfErr result (λ _. out.new ≡ out.old) }
 {
     let filtered = Layer::By(slid_back(extremum, back), between);
@@ -187,9 +187,9 @@ fn residue_set<P: Sample>(
     b: &Arc<Element>,
     out: &mut [P],
 ) -> Result<(), NoMemory>
-    requires sound { IsSource f }
+    requires sound { IsArrayImage f }
     requires set { (picture_in f).kind ≡ kind.Bit }
-    requires room { length out.old ≡ source_count f }
+    requires room { length out.old ≡ array_sample_count f }
     requires stands { P.stands (picture_in f).maxval }
     ensures made { IfOk result (λ _. map P.level out.new ≡ (residue extremum (arc_value b.now).offsets (picture_in f.entry)).samples) }
     ensures kept { IfErr result (λ _. out.new ≡ out.old) }
@@ -207,9 +207,9 @@ fn residue_levels<P: Sample>(
     b: &Arc<Element>,
     out: &mut [P],
 ) -> Result<(), NoMemory>
-    requires sound { IsSource f }
+    requires sound { IsArrayImage f }
     requires grey { (picture_in f).kind ≡ kind.Grey }
-    requires room { length out.old ≡ source_count f }
+    requires room { length out.old ≡ array_sample_count f }
     requires stands { P.stands (picture_in f).maxval }
     ensures made { IfOk result (λ _. map P.level out.new ≡ (residue extremum (arc_value b.now).offsets (picture_in f.entry)).samples) }
     ensures kept { IfErr result (λ _. out.new ≡ out.old) }
@@ -228,8 +228,8 @@ pub fn residue_into<P: Sample>(
     b: &Arc<Element>,
     out: &mut [P],
 ) -> Result<(), NoMemory>
-    requires sound { IsSource f }
-    requires room { length out.old ≡ source_count f }
+    requires sound { IsArrayImage f }
+    requires room { length out.old ≡ array_sample_count f }
     requires stands { P.stands (picture_in f).maxval }
     ensures made { IfOk result (λ _. map P.level out.new ≡ (residue extremum (arc_value b.now).offsets (picture_in f.entry)).samples) }
     ensures kept { IfErr result (λ _. out.new ≡ out.old) }
@@ -249,8 +249,8 @@ pub fn slide_into<P: Sample>(
     b: &Arc<Element>,
     out: &mut [P],
 ) -> Result<(), NoMemory>
-    requires sound { IsSource f }
-    requires room { length out.old ≡ source_count f }
+    requires sound { IsArrayImage f }
+    requires room { length out.old ≡ array_sample_count f }
     requires stands { P.stands (picture_in f).maxval }
     ensures made { IfOk result (λ _. map P.level out.new ≡ (sliding extremum (arc_value b.now).offsets (picture_in f.entry)).samples) }
     ensures kept { IfErr result (λ _. out.new ≡ out.old) }
@@ -266,8 +266,8 @@ pub fn rank_into<P: Sample>(
     b: &Arc<Element>,
     out: &mut [P],
 ) -> Result<(), NoMemory>
-    requires sound { IsSource f }
-    requires room { length out.old ≡ source_count f }
+    requires sound { IsArrayImage f }
+    requires room { length out.old ≡ array_sample_count f }
     requires stands { P.stands (picture_in f).maxval }
     ensures made { IfOk result (λ _. map P.level out.new ≡ (rank (arc_value b.now).offsets k (picture_in f.entry)).samples) }
     ensures kept { IfErr result (λ _. out.new ≡ out.old) }
@@ -282,8 +282,8 @@ pub fn threshold_into(
     f: ArrayImage<'_>,
     out: &mut [u8],
 ) -> Result<(), NoMemory>
-    requires sound { IsSource f }
-    requires room { length out.old ≡ source_count f }
+    requires sound { IsArrayImage f }
+    requires room { length out.old ≡ array_sample_count f }
     ensures made { IfOk result (λ _. out.new ≡ (threshold k (picture_in f.entry)).samples) }
     ensures kept { IfErr result (λ _. out.new ≡ out.old) }
 {
@@ -297,8 +297,8 @@ pub fn gradient_into<P: Sample>(
     b: &Arc<Element>,
     out: &mut [P],
 ) -> Result<(), NoMemory>
-    requires sound { IsSource f }
-    requires room { length out.old ≡ source_count f }
+    requires sound { IsArrayImage f }
+    requires room { length out.old ≡ array_sample_count f }
     requires stands { P.stands (picture_in f).maxval }
     ensures made { IfOk result (λ _. map P.level out.new ≡ (gradient (arc_value b.now).offsets (picture_in f.entry)).samples) }
     ensures kept { IfErr result (λ _. out.new ≡ out.old) }

@@ -6,7 +6,7 @@ ghost use Rattle.std.specs.Arc.{arc_value};
 ghost use Rattle.mw_model.specs.Flat.{gradient, minus, rank};
 ghost use Rattle.mw_model.specs.Laws.{SameShape};
 ghost use Rattle.mw_plan.specs.Steps.{sliding};
-ghost use Rattle.mw_c_arrays.specs.Sources.{IsSource, picture_in};
+ghost use Rattle.mw_c_arrays.specs.Sources.{IsArrayImage, picture_in};
 ghost use Rattle.mw_c_strips.specs.Layers.{rule_picture};
 ghost use Rattle.mw_c_strips.specs.Rows.{AreRows, rows_from};
 
@@ -30,7 +30,7 @@ fn one_rows<P: Sample>(
     first: u32,
     out: &mut [P],
 ) -> Result<(), NoMemory>
-    requires sound { IsSource f }
+    requires sound { IsArrayImage f }
     requires rows { AreRows first (length out.old) (picture_in f) }
     requires stands { P.stands (rule_picture rule (picture_in f)).maxval }
     ensures made { IfOk result (λ _. map P.level out.new ≡ rows_from first (length out.old) (rule_picture rule.entry (picture_in f.entry))) }
@@ -49,7 +49,7 @@ fn difference_rows<P: Sample>(
     first: u32,
     out: &mut [P],
 ) -> Result<(), NoMemory>
-    requires sound { IsSource f }
+    requires sound { IsArrayImage f }
     requires rows { AreRows first (length out.old) (picture_in f) }
     requires alike { SameShape (rule_picture lower (picture_in f)) (rule_picture upper (picture_in f)) }
     requires stands { P.stands (rule_picture upper (picture_in f)).maxval }
@@ -70,7 +70,7 @@ pub fn slide_rows_into<P: Sample>(
     first: u32,
     out: &mut [P],
 ) -> Result<(), NoMemory>
-    requires sound { IsSource f }
+    requires sound { IsArrayImage f }
     requires rows { AreRows first (length out.old) (picture_in f) }
     requires stands { P.stands (picture_in f).maxval }
     ensures made { IfOk result (λ _. map P.level out.new ≡ rows_from first (length out.old) (sliding extremum (arc_value b.now).offsets (picture_in f.entry))) }
@@ -88,7 +88,7 @@ pub fn rank_rows_into<P: Sample>(
     first: u32,
     out: &mut [P],
 ) -> Result<(), NoMemory>
-    requires sound { IsSource f }
+    requires sound { IsArrayImage f }
     requires rows { AreRows first (length out.old) (picture_in f) }
     requires stands { P.stands (picture_in f).maxval }
     ensures made { IfOk result (λ _. map P.level out.new ≡ rows_from first (length out.old) (rank (arc_value b.now).offsets k (picture_in f.entry))) }
@@ -105,7 +105,7 @@ pub fn gradient_rows_into<P: Sample>(
     first: u32,
     out: &mut [P],
 ) -> Result<(), NoMemory>
-    requires sound { IsSource f }
+    requires sound { IsArrayImage f }
     requires rows { AreRows first (length out.old) (picture_in f) }
     requires stands { P.stands (picture_in f).maxval }
     ensures made { IfOk result (λ _. map P.level out.new ≡ rows_from first (length out.old) (gradient (arc_value b.now).offsets (picture_in f.entry))) }

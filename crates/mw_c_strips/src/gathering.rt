@@ -2,21 +2,22 @@
 
 ghost use Rattle.std.specs.Prelude.{◌≡◌, map, IfOk};
 ghost use Rattle.mw_model.specs.declared.shapes.Kind.TheVariants as kind;
+ghost use Rattle.mw_pixel.specs.Images.{set_of};
 ghost use Rattle.mw_pixel.specs.mw_pixel_words.Packed.{samples_of, IsPacked};
-ghost use Rattle.mw_c_arrays.specs.Sources.{IsSource, picture_in};
+ghost use Rattle.mw_c_arrays.specs.Sources.{IsArrayImage, picture_in};
 ghost use Rattle.mw_c_strips.specs.Layers.{rule_picture};
 
 use crate::Sample;
 use crate::cuts::{ask_once, rows_of_layer, strip_from};
 use crate::layers::{Layer, Rule};
 use crate::origins::Origin;
-use crate::packing::image_of;
 use crate::strips::by_rule;
 use mw_c_arrays::ArrayImage;
 use mw_model::NoMemory;
 use mw_pixel::words::stride;
-use mw_pixel::{Image, View, Words};
+use mw_pixel::{Image, Plane, View, Words};
 use std::alloc::Global;
+use std::sync::Arc;
 
 /// The levels that a rule makes of the whole image.
 pub(crate) fn levels_made<P: Sample>(
@@ -24,7 +25,7 @@ pub(crate) fn levels_made<P: Sample>(
     rule: Rule<'_>,
     f: ArrayImage<'_>,
 ) -> Result<Vec<P>, NoMemory>
-    requires sound { IsSource f }
+    requires sound { IsArrayImage f }
     requires grey { (rule_picture rule (picture_in f)).kind ≡ kind.Grey }
     requires stands { P.stands (rule_picture rule (picture_in f)).maxval }
     ensures { IfOk result (λ v. map P.level v.items ≡ (rule_picture rule.entry (picture_in f.entry)).samples) }
@@ -58,7 +59,7 @@ fn words_in(image: &Image) -> &[u64]
 
 /// The words of what a rule makes of the whole image, which is a set.
 fn words_made(alloc: Global, rule: Rule<'_>, f: ArrayImage<'_>) -> Result<Vec<u64>, NoMemory>
-    requires sound { IsSource f }
+    requires sound { IsArrayImage f }
     requires set { (rule_picture rule (picture_in f)).kind ≡ kind.Bit }
     ensures packed { IfOk result (λ v. IsPacked (picture_in f.entry).width (picture_in f.entry).height v.items) }
     ensures samples { IfOk result (λ v. samples_of (picture_in f.entry).width (picture_in f.entry).height v.items ≡ (rule_picture rule.entry (picture_in f.entry)).samples) }
@@ -77,9 +78,19 @@ fn words_made(alloc: Global, rule: Rule<'_>, f: ArrayImage<'_>) -> Result<Vec<u6
     Ok(words)
 }
 
+/// The set as an image.
+fn image_of(alloc: Global, set: Words) -> Result<Image, NoMemory>
+    ensures { IfOk result (λ g. g ≡ set_of set) }
+{
+    let plane = Plane::of_words(set);
+    // for its pixels, which are 0 or 1
+    let _words = plane.words();
+    Ok(Image::bits(Arc::new(alloc, plane)?))
+}
+
 /// The set that a rule makes of the whole image.
 pub(crate) fn set_made(alloc: Global, rule: Rule<'_>, f: ArrayImage<'_>) -> Result<Image, NoMemory>
-    requires sound { IsSource f }
+    requires sound { IsArrayImage f }
     requires set { (rule_picture rule (picture_in f)).kind ≡ kind.Bit }
     requires top { (rule_picture rule (picture_in f)).maxval ≡ 1 }
     ensures { IfOk result (λ g. g ≡ rule_picture rule.entry (picture_in f.entry)) }

@@ -13,12 +13,11 @@
 
 mod applying;
 mod applying_rows;
+mod by_pixel;
 mod cuts;
 mod gathering;
 mod layers;
 mod origins;
-mod packing;
-mod plain;
 mod room;
 mod rows;
 mod samples;

@@ -3,7 +3,7 @@
 ghost use Rattle.std.specs.Prelude.{◌≡◌, ◌<◌, false, true};
 ghost use Rattle.mw_model.specs.declared.shapes.Kind.TheVariants as kind;
 ghost use Rattle.mw_model.specs.Pictures.{sample};
-ghost use Rattle.mw_c_arrays.specs.Sources.{IsSource, picture_in};
+ghost use Rattle.mw_c_arrays.specs.Sources.{IsArrayImage, picture_in};
 
 use mw_c_arrays::ArrayImage;
 use mw_pixel::Image;
@@ -31,7 +31,7 @@ pub(crate) fn is_set(f: ArrayImage<'_>) -> bool
 
 /// The level in column x of row y.
 fn level_in_array(f: ArrayImage<'_>, x: u32, y: u32) -> u16
-    requires sound { IsSource f }
+    requires sound { IsArrayImage f }
     requires across { x < (picture_in f).width }
     requires down { y < (picture_in f).height }
     ensures { result ≡ sample (picture_in f.entry) x y }
@@ -42,11 +42,11 @@ fn level_in_array(f: ArrayImage<'_>, x: u32, y: u32) -> u16
 impl<'a> Origin<'a> {
     ghost use Rattle.std.specs.Prelude.{◌≡◌, ◌<◌};
     ghost use Rattle.mw_model.specs.Pictures.{sample};
-    ghost use Rattle.mw_c_strips.specs.Origins.{IsOrigin, picture_of};
+    ghost use Rattle.mw_c_strips.specs.Origins.{IsOrigin, origin_picture};
 
     /// The columns.
     pub(crate) fn width(self) -> u32
-        ensures { result ≡ (picture_of self.entry).width }
+        ensures { result ≡ (origin_picture self.entry).width }
     {
         match self {
             Origin::Array(f) => f.width(),
@@ -56,7 +56,7 @@ impl<'a> Origin<'a> {
 
     /// The rows.
     pub(crate) fn height(self) -> u32
-        ensures { result ≡ (picture_of self.entry).height }
+        ensures { result ≡ (origin_picture self.entry).height }
     {
         match self {
             Origin::Array(f) => f.height(),
@@ -67,7 +67,7 @@ impl<'a> Origin<'a> {
     /// The greatest level that a sample may have.
     pub(crate) fn maxval(self) -> u16
         requires { IsOrigin self }
-        ensures { result ≡ (picture_of self.entry).maxval }
+        ensures { result ≡ (origin_picture self.entry).maxval }
     {
         match self {
             Origin::Array(f) => f.maxval(),
@@ -78,9 +78,9 @@ impl<'a> Origin<'a> {
     /// The level in column x of row y.
     pub(crate) fn level_in(self, x: u32, y: u32) -> u16
         requires sound { IsOrigin self }
-        requires across { x < (picture_of self).width }
-        requires down { y < (picture_of self).height }
-        ensures { result ≡ sample (picture_of self.entry) x y }
+        requires across { x < (origin_picture self).width }
+        requires down { y < (origin_picture self).height }
+        ensures { result ≡ sample (origin_picture self.entry) x y }
     {
         match self {
             Origin::Array(f) => level_in_array(f, x, y),

@@ -1,7 +1,7 @@
 //! Room for rows of an image.
 
 ghost use Rattle.std.specs.Prelude.{◌≡◌, ◌+◌, ◌*◌, nat_le, true};
-ghost use Rattle.mw_c_arrays.specs.Sources.{IsSource, picture_in, source_count};
+ghost use Rattle.mw_c_arrays.specs.Sources.{IsArrayImage, array_sample_count, picture_in};
 ghost use Rattle.mw_c_strips.specs.Rows.{AreRows, are_rows, fill_rows};
 
 use mw_c_arrays::ArrayImage;
@@ -39,8 +39,8 @@ fn are_rows_of(first: u32, room: usize, width: u32, count: usize) -> bool
 
 /// Whether so many samples are whole rows, one at least, and the image has them from row `first` on.
 pub fn are_rows(f: ArrayImage<'_>, first: u32, room: usize) -> bool
-    ensures value { result ≡ are_rows first room (picture_in f.entry).width (source_count f.entry) }
-    ensures rows { IsSource f.entry → result ≡ true → AreRows first room (picture_in f.entry) }
+    ensures value { result ≡ are_rows first room (picture_in f.entry).width (array_sample_count f.entry) }
+    ensures rows { IsArrayImage f.entry → result ≡ true → AreRows first room (picture_in f.entry) }
 {
     are_rows_of(first, room, f.width(), f.count())
 }

@@ -3,7 +3,7 @@
 ghost use Rattle.std.specs.Prelude.{◌≡◌, ◌≤◌, length, map};
 ghost use Rattle.mw_model.specs.declared.shapes.Kind.TheVariants as kind;
 ghost use Rattle.mw_model.specs.Pictures.{IsImage, Picture};
-ghost use Rattle.mw_c_arrays.specs.Sources.{IsSource, picture_in};
+ghost use Rattle.mw_c_arrays.specs.Sources.{IsArrayImage, picture_in};
 ghost use Rattle.mw_c_strips.specs.Parts.{refilled};
 
 use crate::unpacking::put_octets;
@@ -31,10 +31,10 @@ pub trait Sample: Pixel {
 
     /// An image of the kind, the sides and the maxval of another, with these samples.
     fn like<'a>(f: ArrayImage<'_>, samples: &'a [Self]) -> ArrayImage<'a>
-        requires sound { IsSource f }
+        requires sound { IsArrayImage f }
         requires stands { stands (picture_in f).maxval }
         requires image { IsImage (refilled (picture_in f) (map Self.level samples.now)) }
-        ensures sound { IsSource result }
+        ensures sound { IsArrayImage result }
         ensures image { picture_in result ≡ refilled (picture_in f.entry) (map Self.level samples.entry.now) };
 
     ghost stands_within: { (m : ℕ) → stands m → m ≤ Self.top_level };
@@ -77,8 +77,9 @@ impl Sample for u8 {
 
 impl Sample for u16 {
     ghost use Rattle.std.specs.Prelude.{◌≤◌};
+    ghost use Rattle.mw_model.specs.declared.limits.TheConstants.{LEVEL_LIMIT};
 
-    ghost stands = { λ m. (256 ≤ m) × (m ≤ 65535) };
+    ghost stands = { λ m. (256 ≤ m) × (m ≤ LEVEL_LIMIT) };
 
     fn put(image: &Image, out: &mut [u16]) {
         put_words(image, out);

@@ -9,7 +9,7 @@ ghost use Rattle.mw_model.specs.declared.limits.TheConstants.{SIDE_LIMIT};
 ghost use Rattle.mw_step_task.specs.Meanings.{meaning};
 ghost use Rattle.mw_step_task.specs.WindowTasks.{FitsStep, IsBounded};
 ghost use Rattle.mw_c_strips.specs.Layers.{IsFormula, formula_picture, layer_picture, origin_of, rule_picture};
-ghost use Rattle.mw_c_strips.specs.Origins.{IsOrigin, picture_of};
+ghost use Rattle.mw_c_strips.specs.Origins.{IsOrigin, origin_picture};
 ghost use Rattle.mw_c_strips.specs.Parts.{IsStrip, made_picture, part_of, whole_window};
 
 use crate::layers::{Formula, Layer, Rule, step_of};
@@ -94,8 +94,8 @@ pub(crate) fn by_rule(
     strip: Rect,
 ) -> Result<Image, NoMemory>
     requires sound { IsOrigin f }
-    requires strip { IsStrip strip (picture_of f) }
-    ensures { IfOk result (λ g. g ≡ part_of (rule_picture rule.entry (picture_of f.entry)) strip) }
+    requires strip { IsStrip strip (origin_picture f) }
+    ensures { IfOk result (λ g. g ≡ part_of (rule_picture rule.entry (origin_picture f.entry)) strip) }
 {
     let step = step_of(rule)?;
     let place = grown(strip, step.reach(), f.width(), f.height());

@@ -3,12 +3,12 @@
 ghost use Rattle.std.specs.Prelude.{◌≡◌, [], ◌∷◌, IfOk};
 ghost use Rattle.std.specs.Arc.{arc_value};
 ghost use Rattle.mw_model.specs.Pictures.{Picture};
-ghost use Rattle.mw_model.specs.Places.{IsWithin};
+ghost use Rattle.mw_model.specs.Rectangles.{IsWithin};
 ghost use Rattle.mw_tile_pieces.specs.Patches.{joint, patch};
 ghost use Rattle.mw_tile.specs.Windows.{window_of};
 ghost use Rattle.mw_step_task.specs.WindowTasks.{IsBounded};
-ghost use Rattle.mw_c_arrays.specs.Sources.{IsSource, picture_in};
-ghost use Rattle.mw_c_strips.specs.Origins.{IsOrigin, picture_of};
+ghost use Rattle.mw_c_arrays.specs.Sources.{IsArrayImage, picture_in};
+ghost use Rattle.mw_c_strips.specs.Origins.{IsOrigin, origin_picture};
 ghost use Rattle.mw_c_strips.specs.Parts.{IsStrip, part_of};
 
 use crate::origins::Origin;
@@ -68,7 +68,7 @@ fn standing(
 
 /// The window of some rows of an array.
 fn window_of_array(alloc: Global, f: ArrayImage<'_>, place: Rect) -> Result<SharedWindow, NoMemory>
-    requires sound { IsSource f }
+    requires sound { IsArrayImage f }
     requires strip { IsStrip place (picture_in f) }
     ensures window { IfOk result (λ w. w ≡ window_of place (picture_in f.entry)) }
     ensures bounded { IfOk result IsBounded }
@@ -91,8 +91,8 @@ fn window_of_made(alloc: Global, f: &Image, place: Rect) -> Result<SharedWindow,
 /// The window of some rows of the image.
 pub(crate) fn window(alloc: Global, f: Origin<'_>, place: Rect) -> Result<SharedWindow, NoMemory>
     requires sound { IsOrigin f }
-    requires strip { IsStrip place (picture_of f) }
-    ensures window { IfOk result (λ w. w ≡ window_of place (picture_of f.entry)) }
+    requires strip { IsStrip place (origin_picture f) }
+    ensures window { IfOk result (λ w. w ≡ window_of place (origin_picture f.entry)) }
     ensures bounded { IfOk result IsBounded }
 {
     match f {

@@ -3,14 +3,14 @@
 ghost use Rattle.std.specs.Prelude.{◌≡◌, ℕ, ◌+◌, ◌*◌, ◌<◌, ◌≤◌, length, map, IfErr, IfOk};
 ghost use Rattle.mw_model.specs.Pictures.{Picture};
 ghost use Rattle.mw_c_strips.specs.Layers.{IsFormula, first_origin, formula_picture};
-ghost use Rattle.mw_c_strips.specs.Parts.{HasRows, IsStrip, part_of};
+ghost use Rattle.mw_c_strips.specs.Parts.{HasImageRows, IsStrip, part_of};
 ghost use Rattle.mw_c_strips.specs.Rows.{AreRows, EndAt, rows_from};
 
 use crate::Sample;
+use crate::by_pixel::level_at;
 use crate::cuts::{ask_once, rows_of, strip_from};
 use crate::layers::{Formula, Layer, origin_of};
 use crate::origins::Origin;
-use crate::plain::level_at;
 use crate::strips::strip_of;
 use mw_model::{NoMemory, Rect};
 use mw_pixel::Image;
@@ -35,8 +35,8 @@ fn put_row<P: Sample>(formula: Formula<'_>, width: u32, first: u32, y: u32, out:
     requires behind { first ≤ y }
     requires room { (y + 1) * width ≤ first * width + length out.old }
     requires stands { P.stands (formula_picture formula).maxval }
-    requires before { HasRows P.level (formula_picture formula) first y out.old }
-    ensures { HasRows P.level (formula_picture formula.entry) first (y + 1) out.new }
+    requires before { HasImageRows P.level (formula_picture formula) first y out.old }
+    ensures { HasImageRows P.level (formula_picture formula.entry) first (y + 1) out.new }
 {
     let start = (y - first) as usize * width as usize;
     for x in 0..width {
@@ -46,14 +46,14 @@ fn put_row<P: Sample>(formula: Formula<'_>, width: u32, first: u32, y: u32, out:
 }
 
 /// Writes the rows of a strip place by place, without memory. The array begins with row `first`.
-fn put_plainly<P: Sample>(formula: Formula<'_>, strip: Rect, first: u32, out: &mut [P])
+fn put_by_pixel<P: Sample>(formula: Formula<'_>, strip: Rect, first: u32, out: &mut [P])
     requires sound { IsFormula formula }
     requires strip { IsStrip strip (formula_picture formula) }
     requires behind { first ≤ strip.y }
     requires room { (strip.y + strip.height) * strip.width ≤ first * strip.width + length out.old }
     requires stands { P.stands (formula_picture formula).maxval }
-    requires before { HasRows P.level (formula_picture formula) first strip.y out.old }
-    ensures { HasRows P.level (formula_picture formula.entry) first (strip.y + strip.height) out.new }
+    requires before { HasImageRows P.level (formula_picture formula) first strip.y out.old }
+    ensures { HasImageRows P.level (formula_picture formula.entry) first (strip.y + strip.height) out.new }
 {
     for y in strip.y..strip.y + strip.height {
         put_row(formula, strip.width, first, y, out);
@@ -65,7 +65,7 @@ fn put_rows<P: Sample>(image: &Image, strip: Rect, done: u32, out: &mut [P])
     requires size { length image.now.samples ≡ strip.height * strip.width }
     requires stands { P.stands image.now.maxval }
     requires room { done * strip.width + strip.height * strip.width ≤ length out.old }
-    ensures { (f : Picture) (first : ℕ) → image.now ≡ part_of f strip → IsStrip strip f → length f.samples ≡ f.height * f.width → strip.y ≡ first + done → HasRows P.level f first strip.y out.old → HasRows P.level f first (strip.y + strip.height) out.new }
+    ensures { (f : Picture) (first : ℕ) → image.now ≡ part_of f strip → IsStrip strip f → length f.samples ≡ f.height * f.width → strip.y ≡ first + done → HasImageRows P.level f first strip.y out.old → HasImageRows P.level f first (strip.y + strip.height) out.new }
 {
     let start = done as usize * strip.width as usize;
     let count = strip.height as usize * strip.width as usize;
@@ -79,12 +79,12 @@ fn put_strip<P: Sample>(alloc: Global, formula: Formula<'_>, strip: Rect, first:
     requires behind { first ≤ strip.y }
     requires room { (strip.y + strip.height) * strip.width ≤ first * strip.width + length out.old }
     requires stands { P.stands (formula_picture formula).maxval }
-    requires before { HasRows P.level (formula_picture formula) first strip.y out.old }
-    ensures { HasRows P.level (formula_picture formula.entry) first (strip.y + strip.height) out.new }
+    requires before { HasImageRows P.level (formula_picture formula) first strip.y out.old }
+    ensures { HasImageRows P.level (formula_picture formula.entry) first (strip.y + strip.height) out.new }
 {
     match strip_of(alloc, formula, strip) {
         Ok(image) => put_rows(&image, strip, strip.y - first, out),
-        Err(NoMemory) => put_plainly(formula, strip, first, out),
+        Err(NoMemory) => put_by_pixel(formula, strip, first, out),
     }
 }
 
@@ -102,7 +102,7 @@ fn put_rest<P: Sample>(
     requires within { y ≤ end }
     requires ends { EndAt first end (length out.old) (formula_picture formula) }
     requires stands { P.stands (formula_picture formula).maxval }
-    requires before { HasRows P.level (formula_picture formula) first y out.old }
+    requires before { HasImageRows P.level (formula_picture formula) first y out.old }
     ensures { map P.level out.new ≡ rows_from first (length out.old) (formula_picture formula.entry) }
 {
     let f = first_origin(formula);

@@ -9,7 +9,7 @@ use Rattle.clap.specs.declared.parser.matches.ArgMatches.{ArgMatches}
 use Rattle.clap.specs.declared.parser.matches.ArgMatches.TheViews.{out-ArgMatches, out-SubCommand}
 use Rattle.clap.specs.declared.parser.matches.SubCommand.{SubCommand}
 use Rattle.std.specs.Box.{box_value}
-use Rattle.mw_cli.specs.CommandLine.{AreListens, AreServes, AreTaken, AsksIdle, AsksNoCrew, AsksNoIdle, AsksWorkers, Faults, IsCrew, IsRefused, IsUpTo, Reads, Writes, WritesNoPort, WritesNone, program_words, text_in, usual_workers}
+use Rattle.mw_cli.specs.CommandLine.{AreListens, AreServes, AreTaken, AsksIdle, AsksNoCrew, AsksNoIdle, AsksWorkers, Faults, IsCrew, IsRefused, IsUpTo, Reads, WritesNoPort, WritesNone, WritesNumber, program_words, text_in, usual_workers}
 use Rattle.mw_cli.specs.declared.fault.LineFault.{LineFault}
 use Rattle.mw_cli.specs.declared.fault.LineFault.TheVariants as fault
 
@@ -37,7 +37,7 @@ tried_is_read E gives parses (Some t) (Ok (Some n)) none value =
 tried_is_read E gives parses (Some t) (Err x) none value =
     ((λ e. cc), λ n w. parses t (Err x) (value t refl) (w.0, w.1))
 
-pub one_number : (text : Option Text) (m n : ℕ) → Writes text m → Writes text n → m ≡ n
+pub one_number : (text : Option Text) (m n : ℕ) → WritesNumber text m → WritesNumber text n → m ≡ n
 one_number None m n v w = absurd v
 one_number (Some t) m n v w = v.2 ∙ sym w.2
 
@@ -45,11 +45,11 @@ pub asks_usual : (processors : ℕ) (text : Option Text) (n : ℕ) → text ≡ 
 asks_usual processors None n e is = is
 asks_usual processors (Some t) n e is = cc
 
-pub asks_written : (processors : ℕ) (text : Option Text) (n : ℕ) → Writes text n → AsksWorkers processors text n
+pub asks_written : (processors : ℕ) (text : Option Text) (n : ℕ) → WritesNumber text n → AsksWorkers processors text n
 asks_written processors None n w = absurd w
 asks_written processors (Some t) n w = w
 
-pub no_other_crew : (processors : ℕ) (text : Option Text) (m : ℕ) → Writes text m → (IsCrew m → ⊥) → AsksNoCrew processors text
+pub no_other_crew : (processors : ℕ) (text : Option Text) (m : ℕ) → WritesNumber text m → (IsCrew m → ⊥) → AsksNoCrew processors text
 no_other_crew processors None m w bad n asked ok = absurd w
 no_other_crew processors (Some t) m w bad n asked ok = bad (subst IsCrew (one_number (Some t) n m asked w) ok)
 
@@ -64,7 +64,7 @@ pub missing_is_none : (most : ℕ) (text : Option Text) → text ≡ None → Wr
 missing_is_none most None e n w ok = w
 missing_is_none most (Some t) e n w ok = cc
 
-pub no_other : (most : ℕ) (text : Option Text) (m : ℕ) → Writes text m → (IsUpTo most m → ⊥) → WritesNone most text
+pub no_other : (most : ℕ) (text : Option Text) (m : ℕ) → WritesNumber text m → (IsUpTo most m → ⊥) → WritesNone most text
 no_other most text m v bad n w ok = bad (subst (IsUpTo most) (one_number text n m w v) ok)
 
 pub unread_is_no_port : (E : Type 0) (text : Option Text) (x : E) → Reads text (Err x) → WritesNoPort text
@@ -74,18 +74,18 @@ pub missing_is_no_port : (text : Option Text) → text ≡ None → WritesNoPort
 missing_is_no_port None e n w ok = w
 missing_is_no_port (Some t) e n w ok = cc
 
-pub no_other_port : (text : Option Text) (m : ℕ) → Writes text m → (m ≤ 65535 → ⊥) → WritesNoPort text
+pub no_other_port : (text : Option Text) (m : ℕ) → WritesNumber text m → (m ≤ 65535 → ⊥) → WritesNoPort text
 no_other_port text m v bad n w ok = bad (subst (λ k. k ≤ 65535) (one_number text n m w v) ok)
 
 pub asks_any_time : (text : Option Text) → text ≡ None → AsksIdle text None
 asks_any_time None e = refl
 asks_any_time (Some t) e = cc
 
-pub asks_seconds : (text : Option Text) (n : ℕ) → Writes text n → IsUpTo 86400 n → AsksIdle text (Some n)
+pub asks_seconds : (text : Option Text) (n : ℕ) → WritesNumber text n → IsUpTo 86400 n → AsksIdle text (Some n)
 asks_seconds None n w ok = absurd w
 asks_seconds (Some t) n w ok = (w, ok)
 
-pub no_other_idle : (text : Option Text) (m : ℕ) → Writes text m → (IsUpTo 86400 m → ⊥) → AsksNoIdle text
+pub no_other_idle : (text : Option Text) (m : ℕ) → WritesNumber text m → (IsUpTo 86400 m → ⊥) → AsksNoIdle text
 no_other_idle None m v bad idle asked = absurd v
 no_other_idle (Some t) m v bad None asked = asked
 no_other_idle (Some t) m v bad (Some n) asked = bad (subst (IsUpTo 86400) (one_number (Some t) n m asked.0 v) asked.1)

@@ -26,7 +26,7 @@ number_option name = record (new_rule name) {
   value_names = 1;
 }
 
--- the same, with what it is where it is left out
+-- `--NAME` with a number, and what that is where the option is left out
 abbrev pub usual_option : Text → Text → Rule
 usual_option name usual = record (number_option name) { defaults = usual ∷ [] }
 
@@ -115,25 +115,25 @@ abbrev pub AreServes : Option (Text × List Row) → Type 0
 AreServes rows = option_map (λ p. p.0) rows ≡ Some (codes "serve")
 
 -- there is a text, and it writes this number of 32 bits
-abbrev pub Writes : Option Text → ℕ → Type 0
-Writes None n = ⊥
-Writes (Some text) n =
+abbrev pub WritesNumber : Option Text → ℕ → Type 0
+WritesNumber None n = ⊥
+WritesNumber (Some text) n =
     let digits = without_leading_plus text in
     IsNumeral 10 digits × (digits_value 10 digits < 2 ^ 32) × (n ≡ digits_value 10 digits)
 
 -- what a text is read as: its number; nothing where there is no text; an error where it writes no number
 abbrev pub Reads : {E : Type 0} → Option Text → Result (Option ℕ) E → Type 0
-Reads text (Ok (Some n)) = Writes text n
+Reads text (Ok (Some n)) = WritesNumber text n
 Reads text (Ok None) = text ≡ None
-Reads text (Err e) = (text ≡ None → ⊥) × ((n : ℕ) → Writes text n → ⊥)
+Reads text (Err e) = (text ≡ None → ⊥) × ((n : ℕ) → WritesNumber text n → ⊥)
 
 -- the text writes no side of tiles
 abbrev pub WritesNoSide : Option Text → Type 0
-WritesNoSide text = (side : ℕ) → Writes text side → IsTileSide side → ⊥
+WritesNoSide text = (side : ℕ) → WritesNumber text side → IsTileSide side → ⊥
 
 -- the text writes a side of tiles
 abbrev pub WritesSide : Option Text → Type 0
-WritesSide text = (side : ℕ) × Writes text side × IsTileSide side
+WritesSide text = (side : ℕ) × WritesNumber text side × IsTileSide side
 
 -- a number from 1 to the most that there may be
 abbrev pub IsUpTo : ℕ → ℕ → Type 0
@@ -141,11 +141,11 @@ IsUpTo most n = (1 ≤ n) × (n ≤ most)
 
 -- the text writes such a number
 abbrev pub WritesUpTo : ℕ → Option Text → Type 0
-WritesUpTo most text = (n : ℕ) × Writes text n × IsUpTo most n
+WritesUpTo most text = (n : ℕ) × WritesNumber text n × IsUpTo most n
 
 -- the text writes no such number
 abbrev pub WritesNone : ℕ → Option Text → Type 0
-WritesNone most text = (n : ℕ) → Writes text n → IsUpTo most n → ⊥
+WritesNone most text = (n : ℕ) → WritesNumber text n → IsUpTo most n → ⊥
 
 -- there may be so many workers
 abbrev pub IsCrew : ℕ → Type 0
@@ -161,7 +161,7 @@ usual_workers processors =
 -- the text asks for so many workers; left out, it asks for the usual ones
 abbrev pub AsksWorkers : ℕ → Option Text → ℕ → Type 0
 AsksWorkers processors None n = n ≡ usual_workers processors
-AsksWorkers processors (Some text) n = Writes (Some text) n
+AsksWorkers processors (Some text) n = WritesNumber (Some text) n
 
 -- the text asks for no number of workers that there may be
 abbrev pub AsksNoCrew : ℕ → Option Text → Type 0
@@ -178,7 +178,7 @@ Sets text flag =
 abbrev pub AsksIdle : Option Text → Option ℕ → Type 0
 AsksIdle None idle = idle ≡ None
 AsksIdle (Some text) None = ⊥
-AsksIdle (Some text) (Some seconds) = Writes (Some text) seconds × IsUpTo 86400 seconds
+AsksIdle (Some text) (Some seconds) = WritesNumber (Some text) seconds × IsUpTo 86400 seconds
 
 -- the text asks for no bound on waiting that there may be, and not for none
 abbrev pub AsksNoIdle : Option Text → Type 0
@@ -186,36 +186,36 @@ AsksNoIdle text = (idle : Option ℕ) → AsksIdle text idle → ⊥
 
 -- the text writes a port, or 0
 abbrev pub WritesPort : Option Text → Type 0
-WritesPort text = (n : ℕ) × Writes text n × (n ≤ 65535)
+WritesPort text = (n : ℕ) × WritesNumber text n × (n ≤ 65535)
 
 -- the text writes no port, and not 0
 abbrev pub WritesNoPort : Option Text → Type 0
-WritesNoPort text = (n : ℕ) → Writes text n → n ≤ 65535 → ⊥
+WritesNoPort text = (n : ℕ) → WritesNumber text n → n ≤ 65535 → ⊥
 
 -- the rows ask for this batch, where there are so many processors
 abbrev pub AsksBatch : ℕ → Option (Text × List Row) → BatchOptions → Type 0
 AsksBatch processors rows given =
     (AsksWorkers processors (text_in (codes "workers") rows) given.workers × IsCrew given.workers)
-    × (Writes (text_in (codes "tile") rows) given.side × IsTileSide given.side)
+    × (WritesNumber (text_in (codes "tile") rows) given.side × IsTileSide given.side)
     × Sets (text_in (codes "strict") rows) given.strict
 
 -- the rows ask for this server
 abbrev pub AsksListen : Option (Text × List Row) → ListenOptions → Type 0
 AsksListen rows given =
-    (Writes (text_in (codes "port") rows) given.port × IsUpTo 65535 given.port)
-    × (Writes (text_in (codes "workers") rows) given.workers × IsCrew given.workers)
-    × (Writes (text_in (codes "sessions") rows) given.sessions × IsUpTo 64 given.sessions)
-    × (Writes (text_in (codes "tile") rows) given.side × IsTileSide given.side)
+    (WritesNumber (text_in (codes "port") rows) given.port × IsUpTo 65535 given.port)
+    × (WritesNumber (text_in (codes "workers") rows) given.workers × IsCrew given.workers)
+    × (WritesNumber (text_in (codes "sessions") rows) given.sessions × IsUpTo 64 given.sessions)
+    × (WritesNumber (text_in (codes "tile") rows) given.side × IsTileSide given.side)
     × AsksIdle (text_in (codes "idle") rows) given.idle
     × Sets (text_in (codes "announce") rows) given.announce
 
 -- the rows ask for this service
 abbrev pub AsksServe : Option (Text × List Row) → ServeOptions → Type 0
 AsksServe rows given =
-    (Writes (text_in (codes "port") rows) given.port × (given.port ≤ 65535))
-    × (Writes (text_in (codes "workers") rows) given.workers × IsCrew given.workers)
-    × (Writes (text_in (codes "sessions") rows) given.sessions × IsUpTo 1024 given.sessions)
-    × (Writes (text_in (codes "tile") rows) given.side × IsTileSide given.side)
+    (WritesNumber (text_in (codes "port") rows) given.port × (given.port ≤ 65535))
+    × (WritesNumber (text_in (codes "workers") rows) given.workers × IsCrew given.workers)
+    × (WritesNumber (text_in (codes "sessions") rows) given.sessions × IsUpTo 1024 given.sessions)
+    × (WritesNumber (text_in (codes "tile") rows) given.side × IsTileSide given.side)
     × AsksIdle (text_in (codes "idle") rows) given.idle
     × Sets (text_in (codes "until-end") rows) given.until_end
 

@@ -2,7 +2,7 @@
 
 ghost use Rattle.std.specs.Prelude.{◌≡◌, ◌≤◌, ◌∷◌, [], false, ◌↔◌, codes, IfOk, IfErr, IfSome, IsTrue, None, map};
 ghost use Rattle.clap.specs.Words.{app_of, kind_of, new_app, rule_of, subcommand_rows_of};
-ghost use Rattle.mw_cli.specs.CommandLine.{AreListens, AreServes, Asks, AsksBatch, AsksIdle, AsksListen, AsksNoCrew, AsksNoIdle, AsksServe, AsksWorkers, Faults, FaultsBatch, FaultsListen, FaultsServe, HasNoGlobals, IsAsked, IsCrew, IsNoText, IsRefused, IsUpTo, Reads, Sets, Writes, WritesNone, WritesNoPort, WritesNoSide, bare_words, batch_words, flag_option, listen_words, number_option, program_words, serve_words, text_in, tile_option, usual_option, usual_workers};
+ghost use Rattle.mw_cli.specs.CommandLine.{AreListens, AreServes, Asks, AsksBatch, AsksIdle, AsksListen, AsksNoCrew, AsksNoIdle, AsksServe, AsksWorkers, Faults, FaultsBatch, FaultsListen, FaultsServe, HasNoGlobals, IsAsked, IsCrew, IsNoText, IsRefused, IsUpTo, Reads, Sets, WritesNumber, WritesNone, WritesNoPort, WritesNoSide, bare_words, batch_words, flag_option, listen_words, number_option, program_words, serve_words, text_in, tile_option, usual_option, usual_workers};
 ghost use Rattle.mw_grid.specs.Grids.{IsTileSide};
 ghost use Rattle.std.specs.String.{string_bytes};
 
@@ -80,7 +80,7 @@ fn number_option<'a>(alloc: Global, name: &'a str, value: &'a str, help: &'a str
         .help(help)
 }
 
-// The same, with what it is where it is left out.
+// An option with a number, and what that is where the option is left out.
 fn usual_option<'a>(
     alloc: Global,
     name: &'a str,
@@ -212,7 +212,7 @@ fn number_of(matches: &ArgMatches<'_>, id: &str) -> Result<Option<u32>, ParseInt
 
 // The side of the tiles.
 fn side_of(matches: &ArgMatches<'_>) -> Result<u32, LineFault>
-    ensures ok { IfOk result (λ side. Writes (text_in (codes "tile") (subcommand_rows_of matches.now)) side × IsTileSide side) }
+    ensures ok { IfOk result (λ side. WritesNumber (text_in (codes "tile") (subcommand_rows_of matches.now)) side × IsTileSide side) }
     ensures err { IfErr result (λ e. (e ≡ LineFault.Tile) × WritesNoSide (text_in (codes "tile") (subcommand_rows_of matches.now))) }
 {
     match number_of(matches, "tile") {
@@ -238,7 +238,7 @@ fn is_up_to(number: u32, most: u32) -> bool
 // The number of an option; none where it is not from 1 to the most that there may be.
 #[tactic(auto, using(crate::proofs::CommandReads::unread_is_none, crate::proofs::CommandReads::missing_is_none, crate::proofs::CommandReads::no_other))]
 fn number_up_to(matches: &ArgMatches<'_>, id: &str, most: u32) -> Option<u32>
-    ensures some { IfSome result (λ n. Writes (text_in id.now (subcommand_rows_of matches.now)) n × IsUpTo most n) }
+    ensures some { IfSome result (λ n. WritesNumber (text_in id.now (subcommand_rows_of matches.now)) n × IsUpTo most n) }
     ensures none { result ≡ None → WritesNone most (text_in id.now (subcommand_rows_of matches.now)) }
 {
     match number_of(matches, id) {
@@ -300,7 +300,7 @@ fn idle_of(matches: &ArgMatches<'_>) -> Result<Option<u32>, LineFault>
 // The port, or 0 for any; none where it is over 65535.
 #[tactic(auto, using(crate::proofs::CommandReads::unread_is_no_port, crate::proofs::CommandReads::missing_is_no_port, crate::proofs::CommandReads::no_other_port))]
 fn port_of(matches: &ArgMatches<'_>) -> Option<u16>
-    ensures some { IfSome result (λ n. Writes (text_in (codes "port") (subcommand_rows_of matches.now)) n × (n ≤ 65535)) }
+    ensures some { IfSome result (λ n. WritesNumber (text_in (codes "port") (subcommand_rows_of matches.now)) n × (n ≤ 65535)) }
     ensures none { result ≡ None → WritesNoPort (text_in (codes "port") (subcommand_rows_of matches.now)) }
 {
     match number_of(matches, "port") {

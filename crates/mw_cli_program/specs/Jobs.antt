@@ -1,6 +1,6 @@
 -- What a job leaves behind (own).
 use Rattle.std.specs.Prelude.{◌≡◌, ◌≤◌, ◌⊎◌, ℕ, Bool, MatchBool}
-use Rattle.mw_server_serve.specs.mw_batch.Batches.{Ends, Served, ServedStrictly, Unserved}
+use Rattle.mw_server_serve.specs.mw_batch.Batches.{Served, ServedStrictly, SessionEnds, Unserved}
 use Rattle.mw_grid.specs.Grids.{IsTileSide}
 use Rattle.mw_cli.specs.declared.line.Job.{Job}
 use Rattle.mw_cli.specs.declared.line.Job.TheVariants as job
@@ -20,19 +20,19 @@ IsPossible (job.Listen given) =
 IsPossible (job.Serve given) = IsTileSide given.side
 
 -- what `listen` sees of the writer of faults
-abbrev pub told_of_board : Ends → listening.Told
+abbrev pub told_of_board : SessionEnds → listening.Told
 told_of_board ends = record { text = ends.told; failed = ends.tell_failed }
 
 -- what `serve` sees of the writer of faults
-abbrev pub told_of_service : Ends → services.Told
+abbrev pub told_of_service : SessionEnds → services.Told
 told_of_service ends = record { text = ends.told; failed = ends.tell_failed }
 
 -- a script was served, strictly or not, or there was no memory to begin
-abbrev pub Scripted : Bool → Ends → Ends → ℕ → Type 0
+abbrev pub Scripted : Bool → SessionEnds → SessionEnds → ℕ → Type 0
 Scripted strict old new status = MatchBool strict (ServedStrictly old new status) (Served old new status) ⊎ Unserved old new status
 
 -- The job was done. A batch served its script, strictly where that was asked for, or had no memory to begin. Sessions that share a board were served, as many as were asked for, and their port was told where that was asked for. A service told the port that was asked for, or one that the system picked.
-abbrev pub Performed : Job → Ends → Ends → ℕ → Type 0
+abbrev pub Performed : Job → SessionEnds → SessionEnds → ℕ → Type 0
 Performed (job.Batch given) old new status = Scripted given.strict old new status
 Performed (job.Listen given) old new status =
     Listened IsOfSession given.port given.sessions (told_of_board old) (told_of_board new) status

@@ -1,8 +1,9 @@
 //! A job: from what the command line asks for to the exit status.
 
 ghost use Rattle.std.specs.Prelude.{◌≡◌, false};
-ghost use Rattle.mw_server_serve.specs.mw_batch.Batches.{Ends};
+ghost use Rattle.mw_server_serve.specs.mw_batch.Batches.{SessionEnds};
 ghost use Rattle.mw_grid.specs.Grids.{IsTileSide};
+ghost use Rattle.mw_server_serve.specs.mw_wire.Failures.{IsUnread};
 ghost use Rattle.mw_cli_program.specs.Jobs.{IsPossible, Performed, Scripted};
 
 use mw_cli::{BatchOptions, Job, ListenOptions, ServeOptions};
@@ -36,11 +37,10 @@ fn run_batch<R: Threads + Sync, I: Read, O: Write, F: Write>(
     faults: &mut Sink<F>,
 ) -> u8
     requires side { IsTileSide given.now.side }
-    requires source_clear { source.old.failed ≡ false }
+    requires source_fresh { IsUnread source.old.failed source.old.reads }
     requires sink_clear { sink.old.failed ≡ false }
-    requires unread { source.old.reads ≡ 0 }
-    ensures { let old : Ends = record { left = I.remaining source.old.inner; reads = source.old.reads; read_failed = source.old.failed; written = O.contents sink.old.inner; write_failed = sink.old.failed; told = F.contents faults.old.inner; tell_failed = faults.old.failed } in
-        let new : Ends = record { left = I.remaining source.new.inner; reads = source.new.reads; read_failed = source.new.failed; written = O.contents sink.new.inner; write_failed = sink.new.failed; told = F.contents faults.new.inner; tell_failed = faults.new.failed } in
+    ensures { let old : SessionEnds = record { left = I.remaining source.old.inner; reads = source.old.reads; read_failed = source.old.failed; written = O.contents sink.old.inner; write_failed = sink.old.failed; told = F.contents faults.old.inner; tell_failed = faults.old.failed } in
+        let new : SessionEnds = record { left = I.remaining source.new.inner; reads = source.new.reads; read_failed = source.new.failed; written = O.contents sink.new.inner; write_failed = sink.new.failed; told = F.contents faults.new.inner; tell_failed = faults.new.failed } in
         Scripted given.now.strict old new result }
 {
     if given.strict {
@@ -103,11 +103,10 @@ pub fn perform<
     faults: &mut Sink<F>,
 ) -> u8
     requires possible { IsPossible job.now }
-    requires source_clear { source.old.failed ≡ false }
+    requires source_fresh { IsUnread source.old.failed source.old.reads }
     requires sink_clear { sink.old.failed ≡ false }
-    requires unread { source.old.reads ≡ 0 }
-    ensures { let old : Ends = record { left = I.remaining source.old.inner; reads = source.old.reads; read_failed = source.old.failed; written = O.contents sink.old.inner; write_failed = sink.old.failed; told = F.contents faults.old.inner; tell_failed = faults.old.failed } in
-        let new : Ends = record { left = I.remaining source.new.inner; reads = source.new.reads; read_failed = source.new.failed; written = O.contents sink.new.inner; write_failed = sink.new.failed; told = F.contents faults.new.inner; tell_failed = faults.new.failed } in
+    ensures { let old : SessionEnds = record { left = I.remaining source.old.inner; reads = source.old.reads; read_failed = source.old.failed; written = O.contents sink.old.inner; write_failed = sink.old.failed; told = F.contents faults.old.inner; tell_failed = faults.old.failed } in
+        let new : SessionEnds = record { left = I.remaining source.new.inner; reads = source.new.reads; read_failed = source.new.failed; written = O.contents sink.new.inner; write_failed = sink.new.failed; told = F.contents faults.new.inner; tell_failed = faults.new.failed } in
         Performed job.now old new result }
 {
     match job {

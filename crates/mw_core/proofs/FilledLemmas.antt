@@ -3,7 +3,7 @@ use Rattle.std.proofs.Common.{◌≡◌, ℕ, ◌+◌, ◌-◌, ◌*◌, ◌/◌
 use Rattle.std.specs.Prelude.{slice_get}
 use Rattle.std.proofs.lemmas.Nat.{div-mul-add}
 use Rattle.std.proofs.lemmas.Option.{get_or_from_slice_get}
-use Rattle.mw_model.specs.Places.{Holds}
+use Rattle.mw_model.specs.Rectangles.{Holds}
 use Rattle.mw_model.specs.Pictures.{Picture, sample}
 use Rattle.mw_model.proofs.ImagePlaces.{length-rows, sample-drawn, same_picture}
 use Rattle.mw_grid.specs.Grids.{Tiling, columns_of, rows_of, tile_at, tile_count}
@@ -12,10 +12,10 @@ use Rattle.mw_grid.proofs.Tiles.{HasTiles, column_of_number}
 use Rattle.mw_core_refusals.specs.mw_pixel.Images.{raster_of}
 use Rattle.mw_core_refusals.proofs.mw_pixel.Cells.{slice_get-samples}
 use Rattle.mw_core_refusals.specs.mw_tile_planes.Tiles.{Tiled, AllPlaced, IsPlaneOf, ShowsTiles, tile_cells}
-use Rattle.mw_core_refusals.specs.mw_tile_planes.Filled.{cell_in, cell_or, filled, filled_value, number_at}
+use Rattle.mw_core_refusals.specs.mw_tile_planes.Filled.{cell_in, cell_or, filled, filled_value, tile_number_at}
 
 -- each place of the frame is in the tile of its number
-tile-holds : (g : Tiling) (x y : ℕ) → HasTiles g → x < g.width → y < g.height → (number_at g x y < tile_count g) × Holds (tile_at g (number_at g x y)) x y
+tile-holds : (g : Tiling) (x y : ℕ) → HasTiles g → x < g.width → y < g.height → (tile_number_at g x y < tile_count g) × Holds (tile_at g (tile_number_at g x y)) x y
 tile-holds g x y has across down =
     let some : 0 < g.side = has.some in
     let columns = columns_of g in
@@ -61,7 +61,7 @@ full-filled p f has full is =
     let high = is.shows.height in
     same_picture (filled p) f (record { kind = sym is.kind; width = sym wide; height = sym high; maxval = sym is.maxval }) (length-rows value g.width 0 g.height) is.size (λ x y across down.
     let at = tile-holds g x y has across down in
-    let i = number_at g x y in
+    let i = tile_number_at g x y in
     let placed = cells-there (tile_cells p.tiles i) (full.each i at.0) in
     sample-drawn p.kind g.width g.height p.maxval value x y across down
     ∙ cell-shown g p.tiles f i placed.0 x y is.size is.shows at.0 placed.1 at.1 (omega (arith, across, wide)) (omega (arith, down, high)))

@@ -36,7 +36,7 @@ use Rattle.mw_core_ledger.specs.Tasks.{FinishesAt, IsFitAt, IsFoundAt, IsResultA
 use Rattle.mw_core_ledger.proofs.SeenLemmas.{progress-seen, work-shown}
 use Rattle.mw_core.specs.declared.answers.Finish.{Finish}
 use Rattle.mw_core.specs.declared.answers.Finish.TheVariants as finish
-use Rattle.mw_core.specs.TaskAnswers.{Finishes, IsOwn, TakenAt}
+use Rattle.mw_core.specs.TaskAnswers.{AnswersFinish, IsOwn, TakenAt}
 use Rattle.mw_core.proofs.FilledLemmas.{full-filled}
 use Rattle.mw_core.proofs.TaskLemmas.{complete-seen, seen-set, under-work}
 
@@ -45,9 +45,9 @@ abbrev pub IsTrueResult : Machine → WindowTask → ProgressView → Type 0
 IsTrueResult m d u = d ≡ true_task m d.task.ticket u.progress (result_number u d)
 
 -- it is that of a running task
-running-here : (b : Book) (d : WindowTask) → (r : IsFitAt b d) → IsResultOn (seen_of b) d r.work (result_number r.work d)
+running-here : (b : Book) (d : WindowTask) → (r : IsFitAt b d) → IsResultOn (seen_of b) d r.progress (result_number r.progress d)
 running-here b d r =
-    let u = r.work in
+    let u = r.progress in
     record {
       within = r.at.within;
       pending = r.pending;
@@ -57,27 +57,27 @@ running-here b d r =
     }
 
 -- a ticket's work, beside the machine
-result-under : (b : Book) (m : Machine) (d : WindowTask) → StandsFor (seen_of b) m → IsOrderly b → (r : IsFitAt b d) → IsUnder m d.task.ticket r.work
-result-under b m d s orderly r = under-work b m d.task.ticket r.work r.image s orderly r.at r.pending
+result-under : (b : Book) (m : Machine) (d : WindowTask) → StandsFor (seen_of b) m → IsOrderly b → (r : IsFitAt b d) → IsUnder m d.task.ticket r.progress
+result-under b m d s orderly r = under-work b m d.task.ticket r.progress r.image s orderly r.at r.pending
 
 -- what was made is what the task makes by the definitions
-finishes-here : (b : Book) (m : Machine) (d : WindowTask) (v : ProgressView) → StandsFor (seen_of b) m → IsOrderly b → (f : FinishesAt b d v) → IsTrueResult m d f.was.work
-    → works.Finishes m d.task.ticket f.was.work v (result_number f.was.work d)
+finishes-here : (b : Book) (m : Machine) (d : WindowTask) (v : ProgressView) → StandsFor (seen_of b) m → IsOrderly b → (f : FinishesAt b d v) → IsTrueResult m d f.was.progress
+    → works.Finishes m d.task.ticket f.was.progress v (result_number f.was.progress d)
 finishes-here b m d v s orderly f task =
     let t = d.task.ticket in
-    let u = f.was.work in
+    let u = f.was.progress in
     let n = result_number u d in
     let TileResult : WindowTask → Type 0 = λ x. IsMade x f.made in
     finishes-made m t u v n f.made (true-under m t u (result-under b m d s orderly f.was)) (running-here b d f.was).in_plan f.was.fit.of.running (subst TileResult task f.is) f.finished f.whole
 
 -- ---- others of the ticket are not finished
 
-places-at : (b new : Book) (m : Machine) (d : WindowTask) → StandsFor (seen_of b) m → IsOrderly b → (p : PlacesAt b d new) → IsTrueResult m d p.finishes.was.work → Places (seen_of b) m d (seen_of new)
+places-at : (b new : Book) (m : Machine) (d : WindowTask) → StandsFor (seen_of b) m → IsOrderly b → (p : PlacesAt b d new) → IsTrueResult m d p.finishes.was.progress → Places (seen_of b) m d (seen_of new)
 places-at b new m d s orderly p task =
     let c : CoreView = seen_of b in
     let f = p.finishes in
     let t = d.task.ticket in
-    let u = f.was.work in
+    let u = f.was.progress in
     let v = p.after in
     let n = result_number u d in
     let next = under-finished m t u v n (result-under b m d s orderly f.was) (finishes-here b m d v s orderly f task) p.left in
@@ -114,13 +114,13 @@ value-made m t v (shape.Image k w h x) is other work none =
 value-made m t v (shape.Element w h) is other work none = absurd cc
 value-made m t v (shape.Curve n) is other work none = result-curve m t v n work none is
 
-settles-at : (b new : Book) (m : Machine) (d : WindowTask) → StandsFor (seen_of b) m → IsOrderly b → (p : SettlesAt b d new) → IsTrueResult m d p.finishes.was.work
+settles-at : (b new : Book) (m : Machine) (d : WindowTask) → StandsFor (seen_of b) m → IsOrderly b → (p : SettlesAt b d new) → IsTrueResult m d p.finishes.was.progress
     → Settles (seen_of b) m d d.task.ticket (seen_of new)
 settles-at b new m d s orderly p task =
     let c : CoreView = seen_of b in
     let f = p.finishes in
     let t = d.task.ticket in
-    let u = f.was.work in
+    let u = f.was.progress in
     let v = p.after in
     let n = result_number u d in
     let under = result-under b m d s orderly f.was in
@@ -135,25 +135,25 @@ settles-at b new m d s orderly p task =
 -- ---- what the ledger tells of a result
 
 -- one that was tested against what is kept is that of the true task
-result-at : (b : Book) (m : Machine) (d : WindowTask) → StandsFor (seen_of b) m → IsOrderly b → (r : IsResultAt b d) → IsTrueResult m d r.fits.work
+result-at : (b : Book) (m : Machine) (d : WindowTask) → StandsFor (seen_of b) m → IsOrderly b → (r : IsResultAt b d) → IsTrueResult m d r.fits.progress
 result-at b m d s orderly r =
     let t = d.task.ticket in
     let at = r.fits.at in
-    let u = r.fits.work in
+    let u = r.fits.progress in
     result-true (seen_of b) m u r.fits.image d s at.within r.fits.pending (progress-seen b.works t u at.work) at.whole (orderly.planned t u at.work) at.first (record { fit = r.fits.fit; task = r.task })
 
-pub tested-true : (b : Book) (m : Machine) (d : WindowTask) → StandsFor (seen_of b) m → IsOrderly b → IsResultAt b d → (r : IsFitAt b d) → IsTrueResult m d r.work
+pub tested-true : (b : Book) (m : Machine) (d : WindowTask) → StandsFor (seen_of b) m → IsOrderly b → IsResultAt b d → (r : IsFitAt b d) → IsTrueResult m d r.progress
 tested-true b m d s orderly x r =
     let True : ProgressView → Type 0 = λ u. IsTrueResult m d u in
     let one = x.fits.at.work in
     let other = r.at.work in
-    let same : x.fits.work ≡ r.work = cc in
+    let same : x.fits.progress ≡ r.progress = cc in
     subst True same (result-at b m d s orderly x)
 
 -- one that is the core's own is that of the true task
-pub own-true : (b : Book) (m : Machine) (d : WindowTask) → IsOwn (seen_of b) m d → (r : IsFitAt b d) → IsTrueResult m d r.work
+pub own-true : (b : Book) (m : Machine) (d : WindowTask) → IsOwn (seen_of b) m d → (r : IsFitAt b d) → IsTrueResult m d r.progress
 own-true b m d own r =
-    let u = r.work in
+    let u = r.progress in
     let t = d.task.ticket in
     let here = running-here b d r in
     let inside : d.task.tile < length u.progress.tiles = omega (arith, r.fit.of.inside, length-tiles u r.at.whole) in
@@ -176,7 +176,7 @@ own-true b m d own r =
     subst Of (sym (number-true m u t found.number d is)) is
 
 -- what the ledger has taken, the core has finished
-pub taken-finishes : (b new : Book) (m : Machine) (d : WindowTask) (f : Finish) → StandsFor (seen_of b) m → IsOrderly b → TakenAt b d f new → ((r : IsFitAt b d) → IsTrueResult m d r.work) → Finishes (seen_of b) m d f (seen_of new)
+pub taken-finishes : (b new : Book) (m : Machine) (d : WindowTask) (f : Finish) → StandsFor (seen_of b) m → IsOrderly b → TakenAt b d f new → ((r : IsFitAt b d) → IsTrueResult m d r.progress) → AnswersFinish (seen_of b) m d f (seen_of new)
 taken-finishes b new m d finish.Placed s orderly p is = places-at b new m d s orderly p (is p.finishes.was)
 taken-finishes b new m d (finish.Settled t) s orderly p is =
     let Of : ℕ → Type 0 = λ k. Settles (seen_of b) m d k (seen_of new) in
@@ -195,7 +195,7 @@ found-at b m d s orderly r =
     let within = work-within c t r.progress (complete-seen b orderly) r.work in
     let pending : outcome_at b.table.outcomes t ≡ outcome.Pending = ap (λ (w : Table). outcome_at w.outcomes t) s.table ∙ s.idle t r.progress r.work in
     record {
-      work = u;
+      progress = u;
       image = planned.input.image;
       within = within;
       at = shown.1;

@@ -1,52 +1,61 @@
--- A RUN that is not refused: no fault, and work that is fresh and means the command.
+-- A RUN that is not refused: its inputs as a plan is told of them, and work that is fresh and means the command.
 use Rattle.std.proofs.Common.{◌≡◌, ℕ, ◌<◌, ◌≤◌, ◌++◌, ◌∷◌, [], false, List, length, map, Option, Some, None, Result, Ok, Err, IfOk, OnOk, sym, ap, ◌∙◌, subst}
 use Rattle.std.specs.List.{AllByRecursion}
 use Rattle.mw_model.proofs.mw_facts.Elements.{get_or-push_last}
 use Rattle.mw_model.specs.declared.names.Name.{Name}
 use Rattle.mw_model.specs.declared.operations.Op.{Op}
+use Rattle.mw_model.specs.declared.submissions.Inputs.{Inputs}
 use Rattle.mw_model.specs.declared.submissions.Submission.{Submission}
-use Rattle.mw_model.specs.declared.codes.Code.{Code}
 use Rattle.mw_model.specs.declared.calls.Outcome.TheVariants as outcome
 use Rattle.mw_model.specs.declared.calls.Call.TheVariants as call
 use Rattle.mw_model.specs.declared.calls.Reply.{Reply}
 use Rattle.mw_model.specs.declared.calls.Reply.TheVariants as reply
 use Rattle.mw_model.specs.declared.calls.LogItem.TheVariants as item
 use Rattle.mw_model.specs.Values.{Value, tickets}
-use Rattle.mw_model.specs.Refusals.{Table, first_of, inputs_wanted, is_dead, name_taken, no_room, op_cases, outcome_at, refusal, wanted_case}
-use Rattle.mw_model.specs.Machine.{Machine, values, with_entry, run_submission}
+use Rattle.mw_model.specs.Refusals.{Table, Wanted, AnImage, AnElement, first_of, inputs_wanted, is_dead, name_taken, no_room, op_cases, outcome_at, refusal, wanted_case}
+use Rattle.mw_model.specs.Machine.{Machine, with_entry, run_submission}
 use Rattle.mw_model.specs.Tasks.{Progress, remaining_tasks, running_tasks, task_count}
-use Rattle.mw_model.specs.Stands.{CoreView, StandsFor, progress_at}
-use Rattle.mw_core_refusals.specs.mw_plan.Tables.{AreValuesAt}
+use Rattle.mw_model.specs.Stands.{CoreView, progress_at}
+use Rattle.mw_core_refusals.specs.mw_plan.declared.inputs.Input.{Input}
+use Rattle.mw_core_refusals.specs.mw_plan.Tables.{IsInputOf}
+use Rattle.mw_core_refusals.specs.Found.{AreFound, IsFoundWanted, IsNothing}
 use Rattle.mw_core_refusals.proofs.mw_model_laws.RunTables.{first_none, inputs_all, wanted_alive}
-use Rattle.mw_core_refusals.proofs.mw_plan.Accepted.{machine_values}
 use Rattle.mw_core_ledger.specs.mw_core_progress.ProgressView.{ProgressView}
 use Rattle.mw_core_refusals.specs.mw_store.Stored.{Stored}
 use Rattle.mw_core_ledger.specs.mw_core_laws.Facts.{IsComplete, stored_of}
 use Rattle.mw_core_ledger.specs.mw_core_laws.Limits.{ShapesFit}
 use Rattle.mw_core_ledger.specs.mw_core_laws.Events.{FollowsMachine, IsFresh}
-use Rattle.mw_core_ledger.proofs.mw_core_laws.StandsLemmas.{stands-sound}
 use Rattle.mw_core_ledger.proofs.mw_core_laws.CallLemmas.{serves-run}
-use Rattle.mw_core_ledger.specs.mw_core_tasks.Planning.{IsPlannedBy}
+use Rattle.mw_core_ledger.specs.mw_core_tasks.Planning.{IsLookedUp, IsPlannedBy}
 use Rattle.mw_core_ledger.proofs.mw_core_tasks.FreshLemmas.{planned-fresh, planned-work}
 
--- ---- no fault
+-- ---- what is found of the inputs
 
--- what no values allow, no machine allows that the core stands for
-ruled-out : (c : CoreView) (m : Machine) → StandsFor c m → ((vs : List (Option Value)) → AreValuesAt c.table c.kept vs → ⊥) → ⊥
-ruled-out c m s never =
-    let At : Table → Type 0 = λ w. AreValuesAt w c.kept (values m) in
-    never (values m) (subst At (sym s.table) (machine_values m c.kept (stands-sound c m s) s.agrees))
+looked-up : (s : Stored) (x : Wanted) (t : Option ℕ) (i : Input) → IsFoundWanted s x t i → IsLookedUp s.table s.kept t i
+looked-up s (AnImage n) None i f = absurd f
+looked-up s (AnElement n) None i f = absurd f
+looked-up s (AnImage n) (Some t) i f = record { told = f.0.told; absent = λ is. absurd cc }
+looked-up s (AnElement n) (Some t) i f = record { told = f.0.told; absent = λ is. absurd cc }
 
--- so a note of a fault, which cannot be, serves whatever the machine
-pub serves-no-fault : (c new : CoreView) (n : Name) (o : Op) (x : Code) → ((vs : List (Option Value)) → AreValuesAt c.table c.kept vs → ⊥)
-    → new ≡ record c { log = c.log ++ item.Call (call.Run n o) (reply.Refused x) ∷ [] } → FollowsMachine c (call.Run n o) None new (reply.Refused x)
-serves-no-fault c new n o x never is =
-    record {
-      reply = λ m s. absurd (ruled-out c m s never);
-      stands = λ m s. absurd (ruled-out c m s never);
-      log = ap (λ (d : CoreView). d.log) is;
-      work = λ t within pending. ap (λ (d : CoreView). progress_at d.work t) is;
-    }
+none-looked-up : (s : Stored) (t : Option ℕ) (i : Input) → IsNothing t i → IsLookedUp s.table s.kept t i
+none-looked-up s t i f = let P : Option ℕ → Type 0 = λ x. IsInputOf s.table s.kept x i in record { told = subst P (sym f.0) tt; absent = λ is. f.1 }
+
+-- each input is what a plan is told of its ticket
+pub record AreLookedUp (s : Stored) (at : Inputs) (a b c : Input) : Type 0 where
+  pub first : IsLookedUp s.table s.kept at.a a
+  pub second : IsLookedUp s.table s.kept at.b b
+  pub third : IsLookedUp s.table s.kept at.c c
+
+all-looked-up : (s : Stored) (wanted : List Wanted) (at : Inputs) (a b c : Input) → AreFound s wanted at a b c → AreLookedUp s at a b c
+all-looked-up s [] at a b c f = record { first = none-looked-up s at.a a f.0; second = none-looked-up s at.b b f.1; third = none-looked-up s at.c c f.2 }
+all-looked-up s (x ∷ []) at a b c f = record { first = looked-up s x at.a a f.0; second = none-looked-up s at.b b f.1; third = none-looked-up s at.c c f.2 }
+all-looked-up s (x ∷ y ∷ []) at a b c f = record { first = looked-up s x at.a a f.0; second = looked-up s y at.b b f.1; third = none-looked-up s at.c c f.2 }
+all-looked-up s (x ∷ y ∷ z ∷ more) at a b c f = record { first = looked-up s x at.a a f.0; second = looked-up s y at.b b f.1; third = looked-up s z at.c c f.2 }
+
+pub looked-up-seen : (c : CoreView) (s again : Stored) (wanted : List Wanted) (at : Inputs) (i j k : Input) → s ≡ stored_of c → again ≡ stored_of c → AreFound s wanted at i j k → AreLookedUp again at i j k
+looked-up-seen c s again wanted at i j k seen seen_again are =
+    let P : Stored → Type 0 = λ x. AreFound x wanted at i j k in
+    all-looked-up again wanted at i j k (subst P (seen ∙ sym seen_again) are)
 
 -- ---- the work of an accepted command
 

@@ -28,7 +28,7 @@ use Rattle.mw_core.specs.declared.events.Answer.{Answer}
 use Rattle.mw_core.specs.declared.events.Answer.TheVariants as answer
 use Rattle.mw_core_ledger.specs.mw_core_laws.Payloads.{given_image, image_payload, given_element, element_payload}
 use Rattle.mw_core_ledger.specs.mw_core_laws.Events.{WorkStays, IsFresh, handed_out}
-use Rattle.mw_core.specs.TaskAnswers.{Starts, Finishes, Refuses, Picks}
+use Rattle.mw_core.specs.TaskAnswers.{Starts, AnswersFinish, AnswersRefusal, Picks}
 use Rattle.mw_core_refusals.specs.mw_store.Fetches.{ShowsSome, shown_value}
 
 -- an image that is loaded is within the limits
@@ -94,18 +94,18 @@ after_refusal m (refusal.Killed t) = with_table m (killed m.table t outcome.Memo
 after_refusal m r = m
 
 -- the ready task of this place is taken, or its ticket is killed for want of memory; or no task is ready
-abbrev pub Takes : CoreView → Machine → ℕ → Answer → CoreView → Machine → Type 0
-Takes old m place (answer.Started s) new n = Picks old place s × Starts old m s new × (n ≡ after_start m s)
-Takes old m place a new n = ⊥
+abbrev pub AnswersTake : CoreView → Machine → ℕ → Answer → CoreView → Machine → Type 0
+AnswersTake old m place (answer.Started s) new n = Picks old place s × Starts old m s new × (n ≡ after_start m s)
+AnswersTake old m place a new n = ⊥
 
 -- the result of a running task is taken; any other is late, or a stranger's
 abbrev pub Brings : CoreView → Machine → WindowTask → Answer → CoreView → Machine → Type 0
-Brings old m d (answer.Finish f) new n = Finishes old m d f new × (n ≡ after_finish m f)
+Brings old m d (answer.Finish f) new n = AnswersFinish old m d f new × (n ≡ after_finish m f)
 Brings old m d a new n = ⊥
 
 -- the ticket of a running task is killed for want of memory; any other task is late, or a stranger's
 abbrev pub GivesUp : CoreView → Machine → TaskId → Answer → CoreView → Machine → Type 0
-GivesUp old m k (answer.Refusal r) new n = Refuses old m k r new × (n ≡ after_refusal m r)
+GivesUp old m k (answer.Refusal r) new n = AnswersRefusal old m k r new × (n ≡ after_refusal m r)
 GivesUp old m k a new n = ⊥
 
 -- ---- events
@@ -119,7 +119,7 @@ HasEffect old m (event.Cancel x) a new n = Cancels old m (call.Cancel x) a new n
 HasEffect old m (event.Release x) a new n = CallEffect old m (call.Release x) None a new n
 HasEffect old m (event.Status x) a new n = CallEffect old m (call.Status x) None a new n
 HasEffect old m (event.Fetch x) a new n = Fetches old m (call.Fetch x) a new n
-HasEffect old m (event.Start place) a new n = Takes old m place a new n
+HasEffect old m (event.Start place) a new n = AnswersTake old m place a new n
 HasEffect old m (event.Finish d) a new n = Brings old m d a new n
 HasEffect old m (event.Refuse k) a new n = GivesUp old m k.task a new n
 

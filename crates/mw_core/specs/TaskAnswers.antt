@@ -44,14 +44,14 @@ TakenAt old d (finish.Settled t) new = (t ≡ d.task.ticket) × SettlesAt old d 
 TakenAt old d f new = ⊥
 
 -- the result is taken, and is the last of its ticket or not; or it is late, or a stranger's
-abbrev pub Finishes : CoreView → Machine → WindowTask → Finish → CoreView → Type 0
-Finishes old m d finish.Placed new = Places old m d new
-Finishes old m d (finish.Settled t) new = Settles old m d t new
-Finishes old m d finish.Late new = IsSettled old d.task.ticket × (new ≡ old)
-Finishes old m d finish.Stranger new = IsOpen old d.task.ticket × (IsResult old m d → ⊥) × (new ≡ old)
+abbrev pub AnswersFinish : CoreView → Machine → WindowTask → Finish → CoreView → Type 0
+AnswersFinish old m d finish.Placed new = Places old m d new
+AnswersFinish old m d (finish.Settled t) new = Settles old m d t new
+AnswersFinish old m d finish.Late new = IsSettled old d.task.ticket × (new ≡ old)
+AnswersFinish old m d finish.Stranger new = IsOpen old d.task.ticket × (IsResult old m d → ⊥) × (new ≡ old)
 
 -- the ticket of the running task is killed; or the refusal is late, or a stranger's
-abbrev pub Refuses : CoreView → Machine → TaskId → Refusal → CoreView → Type 0
-Refuses old m k (refusal.Killed t) new = (t ≡ k.ticket) × IsUnderway old k × Kills old m t new
-Refuses old m k refusal.Late new = IsSettled old k.ticket × (new ≡ old)
-Refuses old m k refusal.Stranger new = IsOpen old k.ticket × (IsUnderway old k → ⊥) × (new ≡ old)
+abbrev pub AnswersRefusal : CoreView → Machine → TaskId → Refusal → CoreView → Type 0
+AnswersRefusal old m k (refusal.Killed t) new = (t ≡ k.ticket) × IsUnderway old k × Kills old m t new
+AnswersRefusal old m k refusal.Late new = IsSettled old k.ticket × (new ≡ old)
+AnswersRefusal old m k refusal.Stranger new = IsOpen old k.ticket × (IsUnderway old k → ⊥) × (new ≡ old)

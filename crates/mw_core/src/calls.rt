@@ -3,7 +3,7 @@
 ghost use Rattle.std.specs.Prelude.{◌≡◌, ◌≢◌, ◌⊎◌, ◌++◌, ◌∷◌, [], ℕ, true, false, OnErr, IfOk, IsOk, Ok, None};
 
 use crate::machine::Core;
-use mw_core_ledger::{Counts, Entry, Ledger, Unplanned, planned};
+use mw_core_ledger::{Counts, Entry, Ledger, planned};
 use mw_core_refusals::element::Element;
 use mw_core_refusals::pixel::Image;
 use mw_model::{Call, Code, Given, LogItem, Name, NoMemory, Op, Outcome, Reply};
@@ -130,14 +130,11 @@ impl Core {
         let call = Call::Run(name, op);
         match mw_core_refusals::of_run(self.ledger.store(), name, op) {
             Err(code) => self.note(call, Reply::Refused(code)),
-            Ok(submission) => {
+            Ok(found) => {
                 let (store, side) = (self.ledger.store(), self.ledger.side());
-                match planned(self.alloc, store, side, name, op, submission) {
-                    Ok(work) => self.accept(call, name, Entry::Run(submission), Some(work)),
-                    Err(Unplanned::NoMemory) => Err(NoMemory),
-                    // No command that is accepted comes to this.
-                    Err(Unplanned::Fault(fault)) => self.note(call, Reply::Refused(fault.code())),
-                }
+                let submission = found.submission;
+                let progress = planned(self.alloc, store, side, name, op, found)?;
+                self.accept(call, name, Entry::Run(submission), Some(progress))
             }
         }
     }

@@ -1,8 +1,8 @@
 //! The machine's core: one event at a time.
 //!
 //! Each call is one event. For every state of the machine of one thread that the core stands for, the answer is that
-//! machine's, and the core then stands for the state after the step. `events::serve_all` says so of any list of events,
-//! and `locked_core::LockedCore` keeps it from one event to the next. No call waits, computes a task or copies the samples of a plane:
+//! machine's, and the core then stands for the state after the step. `events::serve_all` says so of any list of events.
+//! No call waits, computes a task or copies the samples of a plane:
 //! windows own the tiles that they are. A command of any operation becomes a plan of steps, and each step has one task
 //! for each tile; a task is ready once the tiles under its windows are done.
 //!
@@ -22,7 +22,6 @@ mod answers;
 mod calls;
 pub mod events;
 mod fetch;
-pub mod locked_core;
 mod machine;
 mod readers;
 mod ready;

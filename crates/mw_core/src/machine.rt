@@ -1,7 +1,7 @@
 //! The core: a ledger, and the counts of its tasks. What is private here is said in plain equations, beside any machine.
 
 ghost use Rattle.std.specs.Prelude.{◌≡◌, ◌⊎◌, ◌<◌, ◌≤◌, [], ◌∷◌, ◌++◌, length, OnOk, OnErr, IfOk, IfSome, option_map, true, false};
-ghost use Rattle.mw_model.specs.declared.limits.TheConstants.{ENTRY_LIMIT};
+ghost use Rattle.mw_model.specs.declared.limits.TheConstants.{ENTRY_LIMIT, TASK_LIMIT};
 
 use mw_core_ledger::{Compact, Counts, Entry, Ledger, PlanProgress};
 use mw_model::{Call, LogItem, Name, NoMemory, Outcome, Reply};
@@ -45,7 +45,7 @@ impl Core {
     ghost use Rattle.mw_model.specs.Refusals.{ticket_of, outcome_at, is_dead, is_pending};
     ghost use Rattle.mw_model.specs.Machine.{with_entry, killed, settled};
     ghost use Rattle.mw_model.specs.Tasks.{remaining_tasks, task_count};
-    ghost use Rattle.mw_core_refusals.specs.mw_store.Entries.{submission_of, outcome_of, payload_in};
+    ghost use Rattle.mw_core_refusals.specs.mw_store.Entries.{MakesNoElement, submission_of, outcome_of, payload_in};
     ghost use Rattle.mw_core_refusals.specs.mw_store.Stored.{DropsSpent};
     ghost use Rattle.mw_core_ledger.specs.mw_core_laws.Changes.{KeepsWork};
     ghost use Rattle.mw_core_ledger.specs.mw_core_laws.Facts.{IsComplete};
@@ -83,27 +83,28 @@ impl Core {
         call: Call,
         name: Name,
         entry: Entry,
-        work: Option<PlanProgress>,
+        progress: Option<PlanProgress>,
     ) -> Result<Reply, NoMemory>
         requires free { ticket_of self.old.table.names name ≡ None }
         requires room { length self.old.table.names < ENTRY_LIMIT }
         requires below { AllByRecursion (λ i. i < length self.old.table.names) (tickets (submission_of entry).inputs) }
         requires alive { AllByRecursion (λ i. is_dead (outcome_at self.old.table.outcomes i) ≡ false) (tickets (submission_of entry).inputs) }
+        requires made { MakesNoElement entry }
         requires fits { FitsLimits (submission_of entry).shape }
-        requires planned { IfSome work (IsPlannedOn self.old.table (submission_of entry)) }
-        requires left { IfSome work (λ u. 1 ≤ remaining_tasks u.progress) }
-        requires most { IfSome work (λ u. task_count u.progress ≤ 4194304) }
+        requires planned { IfSome progress (IsPlannedOn self.old.table (submission_of entry)) }
+        requires left { IfSome progress (λ u. 1 ≤ remaining_tasks u.progress) }
+        requires most { IfSome progress (λ u. task_count u.progress ≤ TASK_LIMIT) }
         ensures reply { IfOk result (λ r. r ≡ Reply.Accepted (length self.old.table.names)) }
         ensures table { OnOk result (self.new.table ≡ with_entry self.old.table name (submission_of entry) (outcome_of entry)) }
         ensures kept { OnOk result (self.new.kept ≡ self.old.kept ++ payload_in entry ∷ []) }
-        ensures work { OnOk result (self.new.work ≡ self.old.work ++ option_map progress_of work ∷ []) }
+        ensures work { OnOk result (self.new.work ≡ self.old.work ++ option_map progress_of progress ∷ []) }
         ensures log { OnOk result (self.new.log ≡ self.old.log ++ LogItem.Call call (Reply.Accepted (length self.old.table.names)) ∷ []) }
         ensures side { self.new.side ≡ self.old.side }
         ensures err { OnErr result (self.new ≡ self.old) }
     {
         self.ledger.sound();
         self.counts.grow()?;
-        match self.ledger.accept(call, name, entry, work) {
+        match self.ledger.accept(call, name, entry, progress) {
             Ok(t) => {
                 self.counts.add_last(&self.ledger);
                 Ok(Reply::Accepted(t))

@@ -1,6 +1,7 @@
 //! How many tasks are ready, running and left.
 
 ghost use Rattle.std.specs.Prelude.{true, ◌≡◌, ◌<◌, ◌≤◌, length, IfSome};
+ghost use Rattle.mw_model.specs.declared.limits.TheConstants.{TASK_LIMIT};
 ghost use Rattle.mw_model.specs.Refusals.{outcome_at};
 
 use crate::machine::Core;
@@ -31,7 +32,7 @@ impl Core {
     pub fn remaining(&self, t: u32) -> Option<u64>
         ensures value { result ≡ remaining_of self.now t }
         ensures pending { (m : Machine) → StandsFor self.now m → IsSome result ↔ ((t < length m.table.names) × (is_pending (outcome_at m.table.outcomes t) ≡ true)) }
-        ensures bounded { IfSome result (λ n. (1 ≤ n) × (n ≤ 4194304)) }
+        ensures bounded { IfSome result (λ n. (1 ≤ n) × (n ≤ TASK_LIMIT)) }
     {
         self.ledger.sound();
         self.ledger.remaining(t)

@@ -40,7 +40,7 @@ impl Core {
     ghost use Rattle.mw_model.specs.Machine.{Machine};
     ghost use Rattle.mw_model.specs.Stands.{StandsFor, ready_count};
     ghost use Rattle.mw_core_refusals.specs.mw_step_task.WindowTasks.{IsBounded};
-    ghost use Rattle.mw_core.specs.TaskAnswers.{Starts, StartsBounded, Finishes, IsOwn, Refuses, Picks};
+    ghost use Rattle.mw_core.specs.TaskAnswers.{Starts, StartsBounded, AnswersFinish, IsOwn, AnswersRefusal, Picks};
 
     /// A worker takes the ready task of this place. Places are counted from 0 in ticket order, and round again where
     /// there are fewer. `Idle` is answered exactly where no task is ready.
@@ -76,7 +76,7 @@ impl Core {
     /// result was made from the tile, the step and the windows that the core has. No memory is asked for: the places of
     /// the tile, of the value and in the log are there since the ticket was accepted or the task was started.
     pub fn finish(&mut self, done: TileDone) -> Finish
-        ensures task { (m : Machine) → StandsFor self.old m → Finishes self.old m done result self.new }
+        ensures task { (m : Machine) → StandsFor self.old m → AnswersFinish self.old m done result self.new }
         ensures side { self.new.side ≡ self.old.side }
     {
         self.ledger.sound();
@@ -87,11 +87,11 @@ impl Core {
         }
     }
 
-    /// The same of a result that is known to be the core's own, as who hands out its tasks can know: the samples of its
-    /// windows are not looked at. All else is tested as by `finish`.
+    /// A result that is known to be the core's own, as who hands out its tasks can know: the samples of its windows are not
+    /// looked at. All else is tested as by `finish`.
     pub fn finish_own(&mut self, done: TileDone) -> Finish
         requires { AllByRecursion IsBounded done.windows }
-        ensures task { (m : Machine) → StandsFor self.old m → IsOwn self.old m done → Finishes self.old m done result self.new }
+        ensures task { (m : Machine) → StandsFor self.old m → IsOwn self.old m done → AnswersFinish self.old m done result self.new }
         ensures side { self.new.side ≡ self.old.side }
     {
         self.ledger.sound();
@@ -104,7 +104,7 @@ impl Core {
 
     /// A worker found no memory for a task: the ticket of a running task is killed.
     pub fn refuse(&mut self, refused: TaskRefused) -> Refusal
-        ensures task { (m : Machine) → StandsFor self.old m → Refuses self.old m refused.task result self.new }
+        ensures task { (m : Machine) → StandsFor self.old m → AnswersRefusal self.old m refused.task result self.new }
         ensures side { self.new.side ≡ self.old.side }
     {
         let task = refused.task();

@@ -7,7 +7,7 @@ use Rattle.std.proofs.lemmas.List.{length-map}
 use Rattle.std.proofs.lemmas.List.Sums.{sum_by-le}
 use Rattle.std.proofs.lemmas.Grind.{get_or_default_zero}
 use Rattle.mw_model.proofs.mw_facts.Alls.{all-get_or}
-use Rattle.mw_model.specs.declared.places.Rect.{Rect}
+use Rattle.mw_model.specs.declared.offsets.Rect.{Rect}
 use Rattle.mw_model.specs.declared.shapes.Kind.{Kind}
 use Rattle.mw_model.specs.declared.shapes.Kind.TheVariants as kind
 use Rattle.mw_model.specs.Pictures.{Picture, FitsKind}
@@ -27,7 +27,7 @@ use Rattle.mw_core_progress.proofs.mw_step_task.Cut.{made_of_cut}
 use Rattle.mw_core_progress.proofs.mw_tile_pieces.TileCells.{cells_in_all, length-cells_in}
 use Rattle.mw_core_progress.specs.mw_core_planes.Levels.{Level, IsLevel, level_of, levels, no_level, level_of_plane}
 use Rattle.mw_core_progress.specs.mw_core_planes.MadeTiles.{IsSmallNumber, cells_of_made, image_of_made}
-use Rattle.mw_core_progress.specs.ProgressView.{ProgressView, IsFinished, IsWhole, Fits, plane_at}
+use Rattle.mw_core_progress.specs.ProgressView.{ProgressView, IsFinished, IsWhole, ResultFits, plane_at}
 use Rattle.mw_core_laws.specs.Works.{Finishes, IsTrueWork, true_sources, true_task}
 use Rattle.mw_core_laws.proofs.Numbers.{length-tiles, some-whole, step_number-within, tile_number-within, tile_of_task-whole}
 use Rattle.mw_core_laws.proofs.Pictured.{true_task-bounded}
@@ -159,7 +159,7 @@ number-made u step tile d (made.Number found) whole at sums is =
 -- ---- what was made fits
 
 -- what a task of a step and tile makes fits them, whatever its windows show
-pub fits-made : (u : ProgressView) (step tile : ℕ) (d : WindowTask) (x : TileResult) → IsWhole u → IsTaskAt u step tile d → IsMade d x → Fits u step tile x
+pub fits-made : (u : ProgressView) (step tile : ℕ) (d : WindowTask) (x : TileResult) → IsWhole u → IsTaskAt u step tile d → IsMade d x → ResultFits u step tile x
 fits-made u step tile d x whole at is =
     let Sums : PlanStep → Bool → Type 0 = λ s b. is_sum s ≡ b in
     record {
@@ -182,7 +182,7 @@ fits-made u step tile d x whole at is =
 
 -- so does what a true task makes
 pub made-fits : (m : Machine) (t : ℕ) (u : ProgressView) (n : ℕ) (x : TileResult) → IsTrueWork m t u → n < task_count u.progress → IsMade (true_task m t u.progress n) x
-    → Fits u (step_number u.progress n) (tile_number u.progress n) x
+    → ResultFits u (step_number u.progress n) (tile_number u.progress n) x
 made-fits m t u n x w within is =
     let p = u.progress in
     let d = true_task m t p n in

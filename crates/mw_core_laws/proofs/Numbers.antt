@@ -2,8 +2,8 @@
 use Rattle.std.proofs.Common.{◌≡◌, ℕ, zero, suc, ◌+◌, ◌-◌, ◌*◌, ◌/◌, ◌<◌, ◌≤◌, List, [], ◌∷◌, ◌++◌, length, get_or, Option, None, sym, ap, ◌∙◌, subst, arith, length-append}
 use Rattle.std.proofs.lemmas.List.{get_or_append_left, get_or-append_right}
 use Rattle.std.proofs.lemmas.Nat.{div-mul-add, mod-mul-add, mul-add-lt, div-add-mod', div_below, mod_below}
-use Rattle.mw_model.specs.declared.places.Rect.{Rect}
-use Rattle.mw_model.specs.Places.{tile_of, IsWithin}
+use Rattle.mw_model.specs.declared.offsets.Rect.{Rect}
+use Rattle.mw_model.specs.Rectangles.{tile_of, IsWithin}
 use Rattle.mw_model.specs.Tasks.{Progress, task_count, step_number, tile_number, planned_of, tile_of_task, nothing_planned}
 use Rattle.mw_grid.specs.Grids.{Tiling, tile_at, tile_count}
 use Rattle.mw_grid.proofs.Tiles.{HasTiles, length-tiles_of, tile_of-tiles_of, tile_within}

@@ -3,7 +3,7 @@ use Rattle.std.proofs.Common.{◌≡◌, ℕ, ◌+◌, ◌<◌, ◌≤◌, false
 use Rattle.std.specs.Prelude.{All}
 use Rattle.std.specs.List.{AllByRecursion}
 use Rattle.mw_model.proofs.mw_facts.Numbers.{strong_induction}
-use Rattle.mw_model.specs.Places.{rect}
+use Rattle.mw_model.specs.Rectangles.{rect}
 use Rattle.mw_model.specs.Pictures.{Picture, IsPicture}
 use Rattle.mw_model.specs.PlanSteps.{PlanStep, step_at, kind_of_step, maxval_of_step}
 use Rattle.mw_model.specs.Plans.{Source, FromInput, FromStep, is_sum, no_picture, plane_of, sight_of}

@@ -5,8 +5,8 @@ use Rattle.std.specs.List.{list_any}
 use Rattle.std.proofs.lemmas.Bool.{cases_Bool, and_parts, and_from, or_cases, or_right, not-true, both_ways, lt-ltb}
 use Rattle.mw_model.proofs.mw_facts.Alls.{all-contains}
 use Rattle.mw_model.proofs.mw_facts.Tests.{list_any-range}
-use Rattle.mw_model.specs.declared.places.Rect.{Rect}
-use Rattle.mw_model.specs.Places.{Holds, IsWithin}
+use Rattle.mw_model.specs.declared.offsets.Rect.{Rect}
+use Rattle.mw_model.specs.Rectangles.{Holds, IsWithin}
 use Rattle.mw_model.specs.Elements.{reach_of}
 use Rattle.mw_model.specs.PlanSteps.{looks_at}
 use Rattle.mw_model.specs.Plans.{FromStep, IsSourceAt, is_sum}

@@ -1,5 +1,6 @@
 -- What an event does: to the machine, the log and the work of the tickets that go on pending (own).
 use Rattle.std.specs.Prelude.{ℕ, ◌≡◌, ◌<◌, ◌≤◌, ◌++◌, ◌∷◌, [], true, length, Option, Some, None}
+use Rattle.mw_model.specs.declared.limits.TheConstants.{TASK_LIMIT}
 use Rattle.mw_model.specs.declared.calls.Call.{Call}
 use Rattle.mw_model.specs.declared.calls.Reply.{Reply}
 use Rattle.mw_model.specs.declared.calls.Reply.TheVariants as reply
@@ -27,7 +28,7 @@ pub record IsFresh (c : CoreView) (t : ℕ) : Type 0 where
   pub progress : Progress
   pub work : progress_at c.work t ≡ Some progress
   pub some : 1 ≤ remaining_tasks progress
-  pub bounded : remaining_tasks progress ≤ 4194304
+  pub bounded : remaining_tasks progress ≤ TASK_LIMIT
   pub unfinished : remaining_tasks progress ≡ task_count progress
   pub idle : running_tasks progress ≡ 0
 

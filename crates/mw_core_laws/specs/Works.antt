@@ -1,7 +1,7 @@
 -- The work under a pending ticket, beside a state of the machine: what is planned, and what its tasks are (own).
 use Rattle.std.specs.Prelude.{ℕ, ◌≡◌, ◌-◌, ◌<◌, ◌⊎◌, true, false, List, [], ◌∷◌, length, map, Some, None, slice_index_or}
 use Rattle.std.specs.List.{AllByRecursion}
-use Rattle.mw_model.specs.declared.places.Rect.{Rect}
+use Rattle.mw_model.specs.declared.offsets.Rect.{Rect}
 use Rattle.mw_model.specs.declared.operations.Op.{Op}
 use Rattle.mw_model.specs.Pictures.{Picture, IsImage}
 use Rattle.mw_model.specs.Plans.{Plan, Source, FromInput, FromStep, IsSourceAt, images_of, is_sum, plane_of_source, value_of_planes}

@@ -7,7 +7,7 @@ ghost use Rattle.mw_model.specs.declared.shapes.Kind.{Kind};
 ghost use Rattle.mw_model.specs.declared.shapes.Shape.TheVariants as shape;
 ghost use Rattle.mw_model.specs.Machine.{Machine, values};
 ghost use Rattle.mw_model.specs.Pictures.{IsImage, Picture};
-ghost use Rattle.mw_model.specs.Places.{IsWithin};
+ghost use Rattle.mw_model.specs.Rectangles.{IsWithin};
 ghost use Rattle.mw_model.specs.Plans.{FromStep, Plan, images_of, is_sum, no_picture};
 ghost use Rattle.mw_model.specs.Refusals.{submission_at};
 ghost use Rattle.mw_model.specs.Stands.{IsWork, input_values, inputs_there, true_cells, true_planes};
@@ -18,7 +18,7 @@ ghost use Rattle.mw_grid.specs.Grids.{Tiling};
 ghost use Rattle.mw_core_progress.specs.mw_plan.declared.inputs.Input.{Input};
 ghost use Rattle.mw_core_progress.specs.mw_core_planes.Levels.{Level, level_of};
 ghost use Rattle.mw_core_progress.specs.mw_core_planes.MadeTiles.{cells_of_made};
-ghost use Rattle.mw_core_progress.specs.ProgressView.{Fits, IsFinished, IsStarted, IsWhole, IsWorkable, ProgressView, fresh, numbers_of, plane_at};
+ghost use Rattle.mw_core_progress.specs.ProgressView.{IsFinished, IsStarted, IsWhole, IsWorkable, ProgressView, ResultFits, fresh, numbers_of, plane_at};
 ghost use Rattle.mw_core_progress.specs.mw_step_task.declared.tile_result.TileResult.{TileResult};
 ghost use Rattle.mw_core_progress.specs.mw_step_task.Products.{IsMade};
 ghost use Rattle.mw_core_progress.specs.mw_step_task.WindowTasks.{FitsStep, IsBounded};
@@ -51,7 +51,7 @@ pub fn true_tasks()
     ensures task { (m : Machine) (t : ℕ) (u : ProgressView) (n : ℕ) (ws : List SourceWindow) → (w : IsTrueWork m t u) → n < task_count u.progress → AreWindowsOfSources u w.planned.image (place_of_task u.progress n) (planned_of u.progress n).sources ws → task_of t u.progress n ws ≡ true_task m t u.progress n }
     ensures fits { (m : Machine) (t : ℕ) (u : ProgressView) (n : ℕ) → IsTrueWork m t u → n < task_count u.progress → FitsStep (true_task m t u.progress n).step (true_task m t u.progress n).rect (true_task m t u.progress n).windows }
     ensures bounded { (m : Machine) (t : ℕ) (u : ProgressView) (n : ℕ) → IsTrueWork m t u → n < task_count u.progress → AllByRecursion IsBounded (true_task m t u.progress n).windows }
-    ensures made { (m : Machine) (t : ℕ) (u : ProgressView) (n : ℕ) (x : TileResult) → IsTrueWork m t u → n < task_count u.progress → IsMade (true_task m t u.progress n) x → Fits u (step_number u.progress n) (tile_number u.progress n) x }
+    ensures made { (m : Machine) (t : ℕ) (u : ProgressView) (n : ℕ) (x : TileResult) → IsTrueWork m t u → n < task_count u.progress → IsMade (true_task m t u.progress n) x → ResultFits u (step_number u.progress n) (tile_number u.progress n) x }
     ensures cells { (m : Machine) (t : ℕ) (u : ProgressView) (n : ℕ) (x : TileResult) → IsTrueWork m t u → n < task_count u.progress → IsMade (true_task m t u.progress n) x → cells_of_made x ≡ true_cells m t u.progress n }
 {}
 

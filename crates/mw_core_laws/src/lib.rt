@@ -13,16 +13,16 @@ mod laws;
 pub use laws::{finished_work, fresh_work, true_tasks, work_goes_on};
 pub use mw_core_progress::{PlanProgress, WholePlane};
 pub use mw_store::{
-    Entry, Fetched, FetchedValue, Store, StoredValue, Waiters, is_pending, reserve_row,
+    Entry, Fetched, FetchedValue, ResolvedRun, Store, StoredValue, Waiters, reserve_row,
 };
 
 // What lower crates offer, for the crates above.
 pub mod gran {
-    pub use mw_store::gran::{Curve, plan_of};
+    pub use mw_store::gran::{Curve, plan_of_any};
 }
 
 pub mod plan {
-    pub use mw_store::plan::{Input, Plan, PlanFault, Source, Sources, plan_of};
+    pub use mw_store::plan::{Input, Plan, PlanFault, Source, Sources};
 }
 
 pub mod task {

@@ -24,7 +24,7 @@ use Rattle.mw_core_tasks.specs.mw_core_laws.Counts.{running_under}
 use Rattle.mw_core_tasks.specs.mw_store.declared.kept.Entry.{Entry}
 use Rattle.mw_core_ledger.specs.Books.{Book, IsOrderly, progress_of, seen_of, work_at}
 use Rattle.mw_core_ledger.specs.Changes.{with_accepted}
-use Rattle.mw_core_ledger.specs.Counts.{AreCounts, Tally, WaitFor, grown}
+use Rattle.mw_core_ledger.specs.Counts.{AreCounts, Tally, WaitFor, tally_grown}
 use Rattle.mw_core_ledger.proofs.Anew.{AreAnew}
 use Rattle.mw_core_ledger.proofs.ReadyLemmas.{work-alike, work-other, work-seen, ready-apart, ready-before, ready-other, ready-released}
 use Rattle.mw_core_ledger.proofs.Rows.{row, row-at, row-is, row-set, sum-set}
@@ -86,7 +86,7 @@ counts-followed b new old k t was x orderly in-new counts is was-is ready runnin
     )
 
 -- an entry was added
-pub counts-added : (b new : Book) (before old k : Tally) (t : ℕ) (c : Call) (n : Name) (e : Entry) (u : Option ProgressView) (room : ℕ) → IsOrderly b → AreCounts (seen_of b) before → old ≡ grown before → new ≡ with_accepted b c n e u room → t + 1 ≡ length old.ready
+pub counts-added : (b new : Book) (before old k : Tally) (t : ℕ) (c : Call) (n : Name) (e : Entry) (u : Option ProgressView) (room : ℕ) → IsOrderly b → AreCounts (seen_of b) before → old ≡ tally_grown before → new ≡ with_accepted b c n e u room → t + 1 ≡ length old.ready
     → k.ready ≡ set old.ready t (ready_under (seen_of new) t) → (old.running ≤ 2 ^ 63 → k.running ≡ old.running - 0 + running_under (seen_of new) t) → AreCounts (seen_of new) k
 counts-added b new before old k t c n e u room orderly counts old-is is last ready running =
     let m = length b.table.names in

@@ -21,7 +21,7 @@ use Rattle.mw_core_tasks.specs.mw_core_progress.ProgressView.{ProgressView, IsFi
 use Rattle.mw_core_tasks.specs.mw_store.declared.kept.Entry.{Entry}
 use Rattle.mw_core_tasks.specs.mw_store.declared.kept.Entry.TheVariants as entry
 use Rattle.mw_core_tasks.specs.mw_store.Entries.{submission_of, outcome_of}
-use Rattle.mw_core_tasks.specs.mw_store.Stored.{IsWhole}
+use Rattle.mw_core_tasks.specs.mw_store.Stored.{StoreIsWhole}
 use Rattle.mw_core_tasks.specs.mw_core_laws.Limits.{FitsLimits, ShapesFit}
 use Rattle.mw_core_tasks.specs.Planning.{IsPlannedAt, IsPlannedOn}
 use Rattle.mw_grid.specs.Grids.{IsTileSide}
@@ -33,7 +33,7 @@ use Rattle.mw_core_ledger.specs.Books.{Book, IsOrderly, stored_in, work_at}
 
 -- the submissions stay, and no other work stands anywhere than before
 pub record Follows (old new : Book) : Type 0 where
-  pub stored : IsWhole (stored_in new)
+  pub stored : StoreIsWhole (stored_in new)
   pub submissions : new.table.submissions ≡ old.table.submissions
   pub names : length new.table.names ≡ length old.table.names
   pub count : length new.works ≡ length old.works
@@ -206,7 +206,7 @@ fits-joined b n e o k fits t l =
 
 -- an entry that may be added leaves the book in order
 pub joined-orderly : (b : Book) (n : Name) (e : Submission) (o : Outcome) (kept : List (Option Value)) (u : Option ProgressView) (log : List LogItem) (room : ℕ) → IsOrderly b → CanJoin b e u → IfSome u (λ v. o ≡ outcome.Pending)
-    → IsWhole (stored_in (joined b n e o kept u log room)) → IsOrderly (joined b n e o kept u log room)
+    → StoreIsWhole (stored_in (joined b n e o kept u log room)) → IsOrderly (joined b n e o kept u log room)
 joined-orderly b n e o kept u log room k j pends whole = record {
   stored = whole;
   works = omega (arith, length-append b.works (u ∷ []), length-append b.table.names (n ∷ []), k.works);

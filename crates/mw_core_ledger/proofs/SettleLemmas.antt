@@ -14,7 +14,7 @@ use Rattle.mw_core_tasks.specs.mw_step_task.declared.tile_result.TileResult.{Til
 use Rattle.mw_core_tasks.specs.mw_step_task.Products.{IsMade}
 use Rattle.mw_core_tasks.specs.mw_step_task.WindowTasks.{FitsStep, WindowTask}
 use Rattle.mw_core_tasks.specs.mw_core_planes.MadeTiles.{cells_of_made}
-use Rattle.mw_core_tasks.specs.mw_core_progress.ProgressView.{ProgressView, Fits, IsFinished, IsWhole, number_of}
+use Rattle.mw_core_tasks.specs.mw_core_progress.ProgressView.{ProgressView, ResultFits, IsFinished, IsWhole, number_of}
 use Rattle.mw_core_tasks.specs.mw_store.Stored.{DropsSpent}
 use Rattle.mw_core_tasks.proofs.ResultLemmas.{result-fits}
 use Rattle.mw_core_ledger.specs.Books.{Book, IsOrderly, work_at}
@@ -25,13 +25,13 @@ use Rattle.mw_core_ledger.proofs.OrderLemmas.{finished-goes_on, with_work, with-
 pub finished-orderly : (b : Book) (d : WindowTask) (after : ProgressView) → IsOrderly b → FinishesAt b d after → 1 ≤ remaining_tasks after.progress → IsOrderly (with_work b d.task.ticket (Some after))
 finished-orderly b d after o f left =
     let at = f.was.at in
-    let on = finished-goes_on f.was.work after _ _ f.finished in
-    with-orderly b d.task.ticket f.was.work after o (omega (arith, at.within, o.works)) at.work on left
+    let on = finished-goes_on f.was.progress after _ _ f.finished in
+    with-orderly b d.task.ticket f.was.progress after o (omega (arith, at.within, o.works)) at.work on left
 
 -- its last step is then still no Sum step, where the result is an image
 pub finished-plane : (b : Book) (d : WindowTask) (after : ProgressView) → IsOrderly b → FinishesAt b d after → is_image (shape_at b.table.submissions d.task.ticket) ≡ true
     → is_sum (get_or after.progress.plan (length after.progress.plan - 1) nothing_planned).step ≡ false
-finished-plane b d after o f image = rw f.finished.plan ((o.planned d.task.ticket f.was.work f.was.at.work).last image)
+finished-plane b d after o f image = rw f.finished.plan ((o.planned d.task.ticket f.was.progress f.was.at.work).last image)
 
 -- the work stands there again
 pub put-back : (old mid : Book) (t : ℕ) (u : ProgressView) → mid ≡ with_work old t None → with_work mid t (Some u) ≡ with_work old t (Some u)
@@ -69,19 +69,19 @@ settles-at old mid d s after new x v e f is last shaped made told =
 -- ---- the work of a result
 
 -- the work that a look finds is the one that the result is of
-pub work-of : (b : Book) (d : WindowTask) (k : TaskId) (u : ProgressView) (r : IsFitAt b d) → k ≡ d.task → work_at b.works k.ticket ≡ Some u → u ≡ r.work
+pub work-of : (b : Book) (d : WindowTask) (k : TaskId) (u : ProgressView) (r : IsFitAt b d) → k ≡ d.task → work_at b.works k.ticket ≡ Some u → u ≡ r.progress
 work-of b d k u r e there =
     let same = ap (λ (i : TaskId). work_at b.works i.ticket) e in
     let work = r.at.work in
     cc
 
-pub fits-at : (b : Book) (d : WindowTask) (k : TaskId) (u : ProgressView) (x : TileResult) (r : IsFitAt b d) → k ≡ d.task → u ≡ r.work → FitsStep d.step d.rect d.windows → IsMade d x → Fits u k.step k.tile x
+pub fits-at : (b : Book) (d : WindowTask) (k : TaskId) (u : ProgressView) (x : TileResult) (r : IsFitAt b d) → k ≡ d.task → u ≡ r.progress → FitsStep d.step d.rect d.windows → IsMade d x → ResultFits u k.step k.tile x
 fits-at b d k u x r e is fits made =
-    let Of : ProgressView → Type 0 = λ v. Fits v d.task.step d.task.tile x in
-    let At : TaskId → Type 0 = λ i. Fits u i.step i.tile x in
-    subst At (sym e) (subst Of (sym is) (result-fits r.work d x r.at.whole r.fit fits made))
+    let Of : ProgressView → Type 0 = λ v. ResultFits v d.task.step d.task.tile x in
+    let At : TaskId → Type 0 = λ i. ResultFits u i.step i.tile x in
+    subst At (sym e) (subst Of (sym is) (result-fits r.progress d x r.at.whole r.fit fits made))
 
-pub finishes-at : (b : Book) (d : WindowTask) (k : TaskId) (u after : ProgressView) (x : TileResult) (r : IsFitAt b d) → k ≡ d.task → u ≡ r.work → IsMade d x → IsFinished u after (number_of u.progress k.step k.tile) (cells_of_made x)
+pub finishes-at : (b : Book) (d : WindowTask) (k : TaskId) (u after : ProgressView) (x : TileResult) (r : IsFitAt b d) → k ≡ d.task → u ≡ r.progress → IsMade d x → IsFinished u after (number_of u.progress k.step k.tile) (cells_of_made x)
     → IsWhole after → FinishesAt b d after
 finishes-at b d k u after x r e is made f whole =
     let At : TaskId → Type 0 = λ i. IsFinished u after (number_of u.progress i.step i.tile) (cells_of_made x) in

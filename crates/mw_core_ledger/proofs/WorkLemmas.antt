@@ -127,7 +127,7 @@ found-of b d k image u is there first whole f =
     let also = ap (λ (i : TaskId). (submission_at b.table.submissions i.ticket).inputs.a) is in
     let work = f.at in
     let read = f.first in
-    let w : f.work ≡ u = cc in
+    let w : f.progress ≡ u = cc in
     let i : f.image ≡ image = cc in
     let Read : ℕ → Type 0 = λ j. IsFoundOf (image_of (value_at b.kept j)) u d in
     let Of : ProgressView → Type 0 = λ v. IsWhole v → IsFoundOf (image_of (value_at b.kept f.image)) v d in
@@ -140,7 +140,7 @@ fit-there b d k image u is within pending there first whole fit =
     let Work : TaskId → Type 0 = λ i. work_at b.works i.ticket ≡ Some u in
     let First : TaskId → Type 0 = λ i. (submission_at b.table.submissions i.ticket).inputs.a ≡ Some image in
     record {
-      work = u;
+      progress = u;
       image = image;
       at = record { within = within; work = subst Work is there; whole = whole; first = subst First is first };
       pending = pending;

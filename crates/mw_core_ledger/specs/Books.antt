@@ -1,5 +1,6 @@
 -- What a ledger shows, and what holds of it beside any machine.
 use Rattle.std.specs.Prelude.{ℕ, ◌≡◌, ◌+◌, ◌-◌, ◌≤◌, List, [], length, map, count_by, Option, Some, None, option_map, slice_index_or}
+use Rattle.mw_model.specs.declared.limits.TheConstants.{TASK_LIMIT}
 use Rattle.mw_model.specs.declared.calls.LogItem.{LogItem}
 use Rattle.mw_model.specs.declared.calls.Outcome.{Outcome}
 use Rattle.mw_model.specs.declared.calls.Outcome.TheVariants as outcome
@@ -9,7 +10,7 @@ use Rattle.mw_model.specs.Stands.{CoreView}
 use Rattle.mw_model.specs.Tasks.{Progress, remaining_tasks, task_count}
 use Rattle.mw_grid.specs.Grids.{IsTileSide}
 use Rattle.mw_core_tasks.specs.mw_core_progress.ProgressView.{ProgressView}
-use Rattle.mw_core_tasks.specs.mw_store.Stored.{Stored, IsWhole}
+use Rattle.mw_core_tasks.specs.mw_store.Stored.{Stored, StoreIsWhole}
 use Rattle.mw_core_tasks.specs.mw_core_laws.Limits.{ShapesFit}
 use Rattle.mw_core_tasks.specs.Planning.{IsPlannedAt}
 
@@ -48,11 +49,11 @@ room_in capacity len outcomes = capacity - (len + count_by is_pending outcomes)
 
 -- The store is whole, each shape is within the limits, there is a place for work with each name, and what stands there is under a pending ticket, is planned for it, is not finished, and has at most 4,194,304 tasks.
 pub record IsOrderly (b : Book) : Type 0 where
-  pub stored : IsWhole (stored_in b)
+  pub stored : StoreIsWhole (stored_in b)
   pub works : length b.works ≡ length b.table.names
   pub fits : ShapesFit b.table
   pub under : (t : ℕ) (u : ProgressView) → work_at b.works t ≡ Some u → outcome_at b.table.outcomes t ≡ outcome.Pending
   pub planned : (t : ℕ) (u : ProgressView) → work_at b.works t ≡ Some u → IsPlannedAt b.table t u
   pub left : (t : ℕ) (u : ProgressView) → work_at b.works t ≡ Some u → 1 ≤ remaining_tasks u.progress
-  pub most : (t : ℕ) (u : ProgressView) → work_at b.works t ≡ Some u → task_count u.progress ≤ 4194304
+  pub most : (t : ℕ) (u : ProgressView) → work_at b.works t ≡ Some u → task_count u.progress ≤ TASK_LIMIT
   pub side : IsTileSide b.side

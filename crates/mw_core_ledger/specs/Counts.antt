@@ -15,8 +15,8 @@ abbrev pub no_counts : Tally
 no_counts = record { ready = []; running = 0 }
 
 -- one ticket more, without tasks
-abbrev pub grown : Tally → Tally
-grown k = record k { ready = k.ready ++ 0 ∷ [] }
+abbrev pub tally_grown : Tally → Tally
+tally_grown k = record k { ready = k.ready ++ 0 ∷ [] }
 
 -- the counts are those of what the core shows
 abbrev pub AreCounts : CoreView → Tally → Type 0

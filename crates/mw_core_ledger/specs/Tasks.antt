@@ -38,33 +38,33 @@ pub record TakesAt (old : Book) (t : ℕ) (new : Book) (w : Option WindowTask) :
 
 -- The result is that of a running task under a pending ticket but for what its windows show, and what was made of it fits its place.
 pub record IsFitAt (b : Book) (d : WindowTask) : Type 0 where
-  pub work : ProgressView
+  pub progress : ProgressView
   pub image : ℕ
-  pub at : IsAtWork b d.task.ticket work image
+  pub at : IsAtWork b d.task.ticket progress image
   pub pending : outcome_at b.table.outcomes d.task.ticket ≡ outcome.Pending
-  pub fit : IsFitOf work d
+  pub fit : IsFitOf progress d
 
 -- The result is that of a running task under a pending ticket, on what is kept.
 pub record IsResultAt (b : Book) (d : WindowTask) : Type 0 where
   pub fits : IsFitAt b d
-  pub task : IsTaskOf (image_of (value_at b.kept fits.image)) d.task.ticket fits.work (result_number fits.work d) d
+  pub task : IsTaskOf (image_of (value_at b.kept fits.image)) d.task.ticket fits.progress (result_number fits.progress d) d
 
 -- There are sources on which a result is that of a running task, where the work is whole, as all work of a ledger is.
 pub record IsFoundAt (b : Book) (d : WindowTask) : Type 0 where
-  pub work : ProgressView
+  pub progress : ProgressView
   pub image : ℕ
   pub within : d.task.ticket < length b.table.names
-  pub at : work_at b.works d.task.ticket ≡ Some work
+  pub at : work_at b.works d.task.ticket ≡ Some progress
   pub first : (submission_at b.table.submissions d.task.ticket).inputs.a ≡ Some image
   pub pending : outcome_at b.table.outcomes d.task.ticket ≡ outcome.Pending
-  pub found : IsWhole work → IsFoundOf (image_of (value_at b.kept image)) work d
+  pub found : IsWhole progress → IsFoundOf (image_of (value_at b.kept image)) progress d
 
 -- The task of a result is finished, with what was made.
 pub record FinishesAt (old : Book) (d : WindowTask) (after : ProgressView) : Type 0 where
   pub was : IsFitAt old d
   pub made : TileResult
   pub is : IsMade d made
-  pub finished : IsFinished was.work after (result_number was.work d) (cells_of_made made)
+  pub finished : IsFinished was.progress after (result_number was.progress d) (cells_of_made made)
   pub whole : IsWhole after
 
 -- others of its ticket are not

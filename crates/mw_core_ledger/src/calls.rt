@@ -1,11 +1,11 @@
 //! Session calls: entries are added, die, and are let go, and each call has its item in the log.
 
 ghost use Rattle.std.specs.Prelude.{◌≡◌, ◌<◌, ◌≤◌, ◌++◌, ◌∷◌, ◌⊎◌, [], length, slice_set, OnOk, OnErr, IfOk, IfSome, None, true, false};
-ghost use Rattle.mw_model.specs.declared.limits.TheConstants.{ENTRY_LIMIT};
+ghost use Rattle.mw_model.specs.declared.limits.TheConstants.{ENTRY_LIMIT, TASK_LIMIT};
 
 use crate::compact::Compact;
 use crate::ledger::Ledger;
-use crate::places::make_places;
+use crate::log_room::make_places;
 use crate::sweep::drop_ended;
 use mw_core_tasks::{Entry, PlanProgress, reserve_row};
 use mw_model::{Call, LogItem, Name, NoMemory, Outcome, Reply};
@@ -17,8 +17,8 @@ impl Ledger {
     ghost use Rattle.mw_model.specs.Machine.{killed, settled};
     ghost use Rattle.mw_model.specs.Stands.{is_wanted};
     ghost use Rattle.mw_model.specs.Tasks.{remaining_tasks, task_count};
-    ghost use Rattle.mw_core_tasks.specs.mw_store.Entries.{submission_of};
-    ghost use Rattle.mw_core_tasks.specs.mw_store.Places.{FillsRows, TakesMore};
+    ghost use Rattle.mw_core_tasks.specs.mw_store.Entries.{MakesNoElement, submission_of};
+    ghost use Rattle.mw_core_tasks.specs.mw_store.RowRoom.{FillsRows, TakesMore};
     ghost use Rattle.mw_core_tasks.specs.mw_store.Stored.{DropsSpent};
     ghost use Rattle.mw_core_tasks.specs.mw_core_laws.Limits.{FitsLimits};
     ghost use Rattle.mw_core_tasks.specs.Planning.{IsPlannedOn};
@@ -49,18 +49,19 @@ impl Ledger {
         call: Call,
         name: Name,
         entry: Entry,
-        work: Option<PlanProgress>,
+        progress: Option<PlanProgress>,
     ) -> Result<u32, NoMemory>
         requires free { ticket_of self.old.table.names name ≡ None }
         requires room { length self.old.table.names < ENTRY_LIMIT }
         requires below { AllByRecursion (λ i. i < length self.old.table.names) (tickets (submission_of entry).inputs) }
         requires alive { AllByRecursion (λ i. is_dead (outcome_at self.old.table.outcomes i) ≡ false) (tickets (submission_of entry).inputs) }
+        requires made { MakesNoElement entry }
         requires fits { FitsLimits (submission_of entry).shape }
-        requires planned { IfSome work (IsPlannedOn self.old.table (submission_of entry)) }
-        requires left { IfSome work (λ u. 1 ≤ remaining_tasks u.progress) }
-        requires most { IfSome work (λ u. task_count u.progress ≤ 4194304) }
+        requires planned { IfSome progress (IsPlannedOn self.old.table (submission_of entry)) }
+        requires left { IfSome progress (λ u. 1 ≤ remaining_tasks u.progress) }
+        requires most { IfSome progress (λ u. task_count u.progress ≤ TASK_LIMIT) }
         ensures ticket { IfOk result (λ t. t ≡ length self.old.table.names) }
-        ensures ok { OnOk result (self.new ≡ with_accepted self.old call name entry work self.new.room) }
+        ensures ok { OnOk result (self.new ≡ with_accepted self.old call name entry progress self.new.room) }
         ensures err { OnErr result (self.new ≡ record self.old { room = self.new.room }) }
         ensures memory { OnErr result ((is_long (LogItem.Call call (Reply.Accepted (length self.old.table.names))) ≡ true) ⊎ (self.old.room < 2) ⊎ FillsRows (length self.old.table.names) ⊎ TakesMore self.old.table.outcomes entry) }
     {
@@ -70,7 +71,7 @@ impl Ledger {
         reserve_row(&mut self.works)?;
         let t = self.store.add(name, entry)?;
         let _whole = self.store.pending();
-        self.works.push_reserved(work);
+        self.works.push_reserved(progress);
         self.log.push_reserved(item);
         Ok(t)
     }

@@ -1,10 +1,10 @@
 //! How many tasks of a ticket are ready, running and left.
 
 ghost use Rattle.std.specs.Prelude.{◌≡◌, ◌<◌, ◌≤◌, length, IfSome};
+ghost use Rattle.mw_model.specs.declared.limits.TheConstants.{TASK_LIMIT};
 ghost use Rattle.mw_core_ledger.specs.Books.{seen_of};
 
 use crate::ledger::Ledger;
-use mw_core_tasks::is_pending;
 
 impl Ledger {
     ghost use Rattle.mw_model.specs.Stands.{ready_under, remaining_of};
@@ -14,13 +14,13 @@ impl Ledger {
     pub fn ready_of(&self, t: u32) -> u32
         requires { t < length self.now.table.names }
         ensures value { result ≡ ready_under (seen_of self.now) t }
-        ensures small { result ≤ 4194304 }
+        ensures small { result ≤ TASK_LIMIT }
     {
-        if !is_pending(self.store.outcome(t)) || !self.store.inputs_there(t) {
+        if !self.store.outcome(t).is_pending() || !self.store.inputs_there(t) {
             return 0;
         }
         match &self.works[t as usize] {
-            Some(work) => work.ready(),
+            Some(progress) => progress.ready(),
             None => 0,
         }
     }
@@ -29,10 +29,10 @@ impl Ledger {
     pub fn running_of(&self, t: u32) -> u32
         requires { t < length self.now.table.names }
         ensures value { result ≡ running_under (seen_of self.now) t }
-        ensures small { result ≤ 4194304 }
+        ensures small { result ≤ TASK_LIMIT }
     {
         match &self.works[t as usize] {
-            Some(work) => work.running(),
+            Some(progress) => progress.running(),
             None => 0,
         }
     }
@@ -40,13 +40,13 @@ impl Ledger {
     /// How many tasks of the ticket are not finished, if it has work.
     pub fn remaining(&self, t: u32) -> Option<u64>
         ensures value { result ≡ remaining_of (seen_of self.now) t }
-        ensures bounded { IfSome result (λ n. (1 ≤ n) × (n ≤ 4194304)) }
+        ensures bounded { IfSome result (λ n. (1 ≤ n) × (n ≤ TASK_LIMIT)) }
     {
         if t >= self.store.len() {
             return None;
         }
         match &self.works[t as usize] {
-            Some(work) => Some(u64::from(work.remaining())),
+            Some(progress) => Some(u64::from(progress.remaining())),
             None => None,
         }
     }

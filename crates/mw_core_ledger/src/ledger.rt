@@ -21,7 +21,7 @@ pub struct Ledger {
 impl Model for Ledger {
     ghost use Rattle.std.specs.Prelude.{◌≡◌, ◌+◌, ◌%◌, ◌≤◌, count_by, vec_len, vec_capacity};
     ghost use Rattle.mw_model.specs.Refusals.{is_pending};
-    ghost use Rattle.mw_core_tasks.specs.mw_store.Places.{HasRow};
+    ghost use Rattle.mw_core_tasks.specs.mw_store.RowRoom.{HasRow};
     ghost use Rattle.mw_core_ledger.specs.Books.{Book, IsOrderly, room_in};
 
     ghost Value = { Book };

@@ -13,7 +13,7 @@ mod calls;
 mod compact;
 mod counts;
 mod ledger;
-mod places;
+mod log_room;
 mod settling;
 mod sweep;
 mod tally;
@@ -21,7 +21,7 @@ mod tasks;
 
 pub use compact::Compact;
 pub use ledger::Ledger;
-pub use mw_core_tasks::{Entry, Fetched, FetchedValue, PlanProgress, Unplanned, planned};
+pub use mw_core_tasks::{Entry, Fetched, FetchedValue, PlanProgress, planned};
 pub use mw_model::NoMemory;
 pub use tally::Counts;
 pub use tasks::Unfit;

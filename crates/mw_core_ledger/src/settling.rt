@@ -15,17 +15,17 @@ use mw_core_tasks::{PlanProgress, StoredValue, Waiters, WholePlane};
 use mw_model::{LogItem, Outcome, Shape};
 
 /// The value that finished work has made, where the result has this shape. No memory is asked for.
-fn value_of(shape: Shape, work: PlanProgress) -> StoredValue
-    requires done { remaining_tasks work.progress ≡ 0 }
-    requires plane { is_image shape ≡ true → is_sum (slice_index_or work.progress.plan (length work.progress.plan - 1) nothing_planned).step ≡ false }
-    ensures { kept_value result ≡ value_made shape work }
+fn value_of(shape: Shape, progress: PlanProgress) -> StoredValue
+    requires done { remaining_tasks progress.progress ≡ 0 }
+    requires plane { is_image shape ≡ true → is_sum (slice_index_or progress.progress.plan (length progress.progress.plan - 1) nothing_planned).step ≡ false }
+    ensures { kept_value result ≡ value_made shape progress }
 {
     // Of finished work all tiles of the last step are placed.
-    let _whole = work.remaining();
+    let _whole = progress.remaining();
     match shape {
-        Shape::Image(_, _, _, _) => StoredValue::Tiles(WholePlane::of(work.into_plane())),
-        Shape::Element(_, _) => StoredValue::Curve(Curve::of(work.into_numbers())),
-        Shape::Curve(_) => StoredValue::Curve(Curve::of(work.into_numbers())),
+        Shape::Image(_, _, _, _) => StoredValue::Tiles(WholePlane::of(progress.into_plane())),
+        Shape::Element(_, _) => StoredValue::Curve(Curve::of(progress.into_numbers())),
+        Shape::Curve(_) => StoredValue::Curve(Curve::of(progress.into_numbers())),
     }
 }
 
@@ -50,11 +50,11 @@ impl Ledger {
         let task = done.task();
         // They fit the step, as a fact of the result.
         let _windows = done.windows();
-        let Some(mut work) = self.works[task.ticket as usize].take() else {
+        let Some(mut progress) = self.works[task.ticket as usize].take() else {
             unreachable!()
         };
-        work.finish(task.step, task.tile, done.into_made());
-        work
+        progress.finish(task.step, task.tile, done.into_made());
+        progress
     }
 
     /// Ends a pending ticket by its value, in the place that its item has, and hands out those that waited for it.
@@ -88,12 +88,12 @@ impl Ledger {
         ensures below { IfSome result (λ w. AllByRecursion (λ u. u < length self.old.table.names) w) }
     {
         let t = done.task().ticket;
-        let work = self.finished(done);
-        if work.remaining() > 0 {
-            self.works[t as usize] = Some(work);
+        let progress = self.finished(done);
+        if progress.remaining() > 0 {
+            self.works[t as usize] = Some(progress);
             return None;
         }
-        let value = value_of(self.store.shape(t), work);
+        let value = value_of(self.store.shape(t), progress);
         Some(self.settle(t, value))
     }
 }

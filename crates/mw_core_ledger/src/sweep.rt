@@ -6,7 +6,7 @@ ghost use Rattle.mw_core_tasks.specs.mw_core_progress.ProgressView.{ProgressView
 ghost use Rattle.mw_core_ledger.specs.Books.{work_at};
 ghost use Rattle.mw_core_ledger.specs.Changes.{KeepsWorks};
 
-use mw_core_tasks::{PlanProgress, Store, is_pending};
+use mw_core_tasks::{PlanProgress, Store};
 
 /// Drops the work under each ticket that is not pending.
 pub(crate) fn drop_settled(store: &Store, works: &mut [Option<PlanProgress>])
@@ -14,7 +14,7 @@ pub(crate) fn drop_settled(store: &Store, works: &mut [Option<PlanProgress>])
     ensures { KeepsWorks store.now.table works.old works.new }
 {
     for t in 0..store.len() {
-        keep_if(is_pending(store.outcome(t)), works, t as usize);
+        keep_if(store.outcome(t).is_pending(), works, t as usize);
     }
 }
 

@@ -38,7 +38,7 @@ impl Counts {
     ghost use Rattle.mw_core_ledger.specs.Books.{Book, IsOrderly, seen_of};
     ghost use Rattle.mw_core_ledger.specs.Changes.{with_accepted};
     ghost use Rattle.mw_core_ledger.specs.Tasks.{SettlesAt};
-    ghost use Rattle.mw_core_ledger.specs.Counts.{AreCounts, Tally, WaitFor, grown, no_counts};
+    ghost use Rattle.mw_core_ledger.specs.Counts.{AreCounts, Tally, WaitFor, no_counts, tally_grown};
 
     /// Of a ledger without entries.
     pub fn new(alloc: Global) -> Result<Counts, NoMemory>
@@ -53,7 +53,7 @@ impl Counts {
     /// A place for one ticket more, which has no task yet.
     pub fn grow(&mut self) -> Result<(), NoMemory>
         requires { length self.old.ready < 65536 }
-        ensures { MatchResult result (λ _. self.new ≡ grown self.old) (λ _. self.new ≡ self.old) }
+        ensures { MatchResult result (λ _. self.new ≡ tally_grown self.old) (λ _. self.new ≡ self.old) }
     {
         self.ready.push(0)
     }
@@ -61,7 +61,7 @@ impl Counts {
     /// Takes back the last place, of a ticket that did not come.
     pub fn shrink(&mut self)
         requires { 1 ≤ length self.old.ready }
-        ensures { (k : Tally) → self.old ≡ grown k → self.new ≡ k }
+        ensures { (k : Tally) → self.old ≡ tally_grown k → self.new ≡ k }
     {
         self.ready.pop();
     }
@@ -86,7 +86,7 @@ impl Counts {
     pub fn add_last(&mut self, ledger: &Ledger)
         requires some { 1 ≤ length ledger.now.table.names }
         requires count { length self.old.ready ≡ length ledger.now.table.names }
-        ensures { (b : Book) (k : Tally) (c : Call) (n : Name) (e : Entry) (u : Option ProgressView) (room : ℕ) → IsOrderly b → AreCounts (seen_of b) k → self.old ≡ grown k → ledger.now ≡ with_accepted b c n e u room
+        ensures { (b : Book) (k : Tally) (c : Call) (n : Name) (e : Entry) (u : Option ProgressView) (room : ℕ) → IsOrderly b → AreCounts (seen_of b) k → self.old ≡ tally_grown k → ledger.now ≡ with_accepted b c n e u room
             → AreCounts (seen_of ledger.now) self.new }
     {
         let last = self.ready.len() - 1;

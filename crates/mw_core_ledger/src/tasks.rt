@@ -4,7 +4,7 @@ ghost use Rattle.std.specs.Prelude.{◌≡◌, ◌<◌, ◌≤◌, ◌↔◌, le
 
 use crate::ledger::Ledger;
 use mw_core_tasks::task::{TileDone, Work};
-use mw_core_tasks::{begin, is_fit, is_pending, is_result};
+use mw_core_tasks::{begin, is_fit, is_result};
 use mw_model::{NoMemory, Outcome, TaskId};
 
 /// Why a task is not taken.
@@ -38,9 +38,9 @@ impl Ledger {
         };
         let alloc = self.alloc;
         match &mut self.works[t as usize] {
-            Some(work) => {
-                let _whole = work.remaining();
-                begin(alloc, &self.store, image, t, work, place)
+            Some(progress) => {
+                let _whole = progress.remaining();
+                begin(alloc, &self.store, image, t, progress, place)
             }
             None => unreachable!(),
         }
@@ -57,7 +57,7 @@ impl Ledger {
         if t >= self.store.len() {
             return Err(Unfit::Stranger);
         }
-        if is_pending(self.store.outcome(t)) {
+        if self.store.outcome(t).is_pending() {
             Ok(())
         } else {
             Err(Unfit::Late)
@@ -76,15 +76,15 @@ impl Ledger {
             return false;
         };
         match &self.works[t as usize] {
-            Some(work) => {
-                let _whole = work.remaining();
-                is_result(&self.store, image, work, done)
+            Some(progress) => {
+                let _whole = progress.remaining();
+                is_result(&self.store, image, progress, done)
             }
             None => false,
         }
     }
 
-    /// The same but for what the windows show, which is not looked at.
+    /// Whether a result on bounded windows is that of a running task, but for what the windows show, which is not looked at.
     fn has_fit(&self, done: &TileDone) -> bool
         requires within { done.now.task.ticket < length self.now.table.names }
         requires pending { outcome_at self.now.table.outcomes done.now.task.ticket ≡ Outcome.Pending }
@@ -97,9 +97,9 @@ impl Ledger {
             return false;
         };
         match &self.works[t as usize] {
-            Some(work) => {
-                let _whole = work.remaining();
-                is_fit(work, done)
+            Some(progress) => {
+                let _whole = progress.remaining();
+                is_fit(progress, done)
             }
             None => false,
         }
@@ -111,9 +111,9 @@ impl Ledger {
         ensures { IsTrue result ↔ IsUnderway (seen_of self.now) task }
     {
         match &self.works[task.ticket as usize] {
-            Some(work) => {
-                let _whole = work.remaining();
-                work.is_running(task.step, task.tile)
+            Some(progress) => {
+                let _whole = progress.remaining();
+                progress.is_running(task.step, task.tile)
             }
             None => false,
         }
@@ -134,7 +134,8 @@ impl Ledger {
         }
     }
 
-    /// The same of a result on bounded windows, but for what they show, which is not looked at.
+    /// Whether a result on bounded windows is that of a running task under a pending ticket, but for what the windows show,
+    /// which is not looked at.
     pub fn check_fit(&self, done: &TileDone) -> Result<(), Unfit>
         requires { AllByRecursion IsBounded done.now.windows }
         ensures ok { OnOk result (IsFitAt self.now done.now) }

@@ -4,8 +4,8 @@ use Rattle.std.proofs.lemmas.Bool.{cases_eq, eq-eqb, ne_eqb}
 use Rattle.std.proofs.lemmas.List.{length-set, get_or-set_same, get_or-set_other}
 use Rattle.mw_tile_planes.specs.Tiles.{Tiled, tile_cells}
 use Rattle.mw_grid.specs.Grids.{Tiling}
-use Rattle.mw_core_planes.specs.Places.{shown, place_at, Swept, SweptAll}
-use Rattle.mw_core_planes.specs.declared.places.StepPlane.{StepPlane}
+use Rattle.mw_core_planes.specs.StepPlanes.{shown, place_at, Swept, SweptAll}
+use Rattle.mw_core_planes.specs.declared.step_planes.StepPlane.{StepPlane}
 
 abbrev no_cells : Option (List ℕ)
 no_cells = None

@@ -1,6 +1,6 @@
 pub mod Levels
 pub mod MadeTiles
-pub mod Places
+pub mod StepPlanes
 -- what lower crates offer
 pub mod mw_model_laws
 pub mod mw_plan

@@ -6,9 +6,9 @@ ghost use Rattle.mw_grid.specs.Blocks.{IsBlock, in_block, sees};
 ghost use Rattle.mw_grid.specs.Counts.{in_range};
 ghost use Rattle.mw_grid.specs.Grids.{tile_count};
 ghost use Rattle.mw_ready.specs.Boards.{is_source, step_reads};
-ghost use Rattle.mw_core_planes.specs.Places.{shown, form, place_at, is_read, Swept, SweptAll};
+ghost use Rattle.mw_core_planes.specs.StepPlanes.{shown, form, place_at, is_read, Swept, SweptAll};
 
-use crate::places::StepPlane;
+use crate::step_planes::StepPlane;
 use mw_grid::{Block, Grid};
 use mw_ready::{Need, Ready};
 use mw_tile_planes::TiledPlane;
@@ -44,7 +44,7 @@ fn drop_block(plane: &mut TiledPlane, ready: &Ready, grid: Grid, step: u32, bloc
     }
 }
 
-/// The same in the plane of a step, if it is open.
+/// Drops a block of tiles of the plane of a step, if it is open.
 fn drop_in_step(places: &mut [StepPlane], ready: &Ready, grid: Grid, step: u32, block: Block)
     requires step { step < length ready.now.board.needs }
     requires within { step < length places.old }
@@ -59,7 +59,7 @@ fn drop_in_step(places: &mut [StepPlane], ready: &Ready, grid: Grid, step: u32, 
     }
 }
 
-/// The same in the plane of a source, if that is a step.
+/// Drops a block of tiles of the plane of a source, if that is a step.
 fn drop_in_source(
     places: &mut [StepPlane],
     ready: &Ready,
@@ -78,7 +78,7 @@ fn drop_in_source(
     }
 }
 
-/// The same in the plane of each source that is a step.
+/// Drops a block of tiles of the plane of each source that is a step.
 fn drop_in_sources(
     places: &mut [StepPlane],
     ready: &Ready,

@@ -15,7 +15,7 @@
 mod dropping;
 mod levels;
 mod needs;
-mod places;
+mod step_planes;
 
 pub use dropping::drop_read;
 pub use levels::{PlaneLevel, levels_of};
@@ -26,4 +26,4 @@ pub use mw_plan::{Plan, PlannedStep};
 pub use mw_ready::{Need, Ready, tasks_are_those_of_work};
 pub use mw_tile_planes::{TileSums, TiledPlane, WholePlane};
 pub use needs::needs_of;
-pub use places::{StepPlane, closed};
+pub use step_planes::{StepPlane, closed};

@@ -6,7 +6,7 @@ use Rattle.mw_model.specs.Tasks.{Progress}
 use Rattle.mw_grid.specs.Grids.{Tiling, tile_count, tiles_of}
 use Rattle.mw_grid.proofs.Lines.{number_of as number_of_cell}
 use Rattle.mw_grid.proofs.Tiles.{length-tiles_of}
-use Rattle.mw_core_planes.specs.mw_ready.Boards.{Schedule, Runs, task_number, task_count, is_ready, ready_tasks}
+use Rattle.mw_core_planes.specs.mw_ready.Boards.{Schedule, RunsOn, task_number, task_count_on, is_ready_on, ready_tasks_on}
 use Rattle.mw_core_planes.specs.mw_ready.Work.{IsBoardOf, SameTasks}
 use Rattle.mw_core_planes.specs.mw_tile_planes.Tiles.{Tiled}
 use Rattle.mw_core_planes.specs.Levels.{Level}
@@ -45,7 +45,7 @@ tiles_back plan g b tile boarded lt = subst (λ (t : Tiling). tile < tile_count 
 
 -- a task of the board that is running
 pub runs_is : (plan : Plan) (input : Level) (g : Tiling) (b : Schedule) (planes : List Tiled) (order : List ℕ) (step tile : ℕ) → IsBoarded plan g b → IsTied b → step < length plan → tile < tile_count g
-    → tasks.is_running (underway plan input g b.started b.finished planes order).progress (number_of (underway plan input g b.started b.finished planes order).progress step tile) ≡ true → Runs b step tile
+    → tasks.is_running (underway plan input g b.started b.finished planes order).progress (number_of (underway plan input g b.started b.finished planes order).progress step tile) ≡ true → RunsOn b step tile
 runs_is plan input g b planes order step tile boarded tied within inside running =
     let p = (underway plan input g b.started b.finished planes order).progress in
     record {
@@ -54,7 +54,7 @@ runs_is plan input g b planes order step tile boarded tied within inside running
       running = sym ((same_work plan input g b planes order boarded tied).running (task_number b.grid step tile)) ∙ ap (tasks.is_running p) (sym (number_is plan input g b planes order step tile boarded)) ∙ running;
     }
 
-pub is_run : (plan : Plan) (input : Level) (g : Tiling) (b : Schedule) (planes : List Tiled) (order : List ℕ) (step tile : ℕ) → IsBoarded plan g b → IsTied b → Runs b step tile
+pub is_run : (plan : Plan) (input : Level) (g : Tiling) (b : Schedule) (planes : List Tiled) (order : List ℕ) (step tile : ℕ) → IsBoarded plan g b → IsTied b → RunsOn b step tile
     → (step < length plan) × (tile < tile_count g) × (tasks.is_running (underway plan input g b.started b.finished planes order).progress (number_of (underway plan input g b.started b.finished planes order).progress step tile) ≡ true)
 is_run plan input g b planes order step tile boarded tied runs =
     let p = (underway plan input g b.started b.finished planes order).progress in (
@@ -64,13 +64,13 @@ is_run plan input g b planes order step tile boarded tied runs =
     )
 
 -- a place in the order of ready tasks
-pub place_is : (plan : Plan) (input : Level) (g : Tiling) (b : Schedule) (planes : List Tiled) (order : List ℕ) (place : ℕ) → IsBoarded plan g b → IsTied b → place < tasks.ready_tasks (underway plan input g b.started b.finished planes order).progress → place < ready_tasks b
+pub place_is : (plan : Plan) (input : Level) (g : Tiling) (b : Schedule) (planes : List Tiled) (order : List ℕ) (place : ℕ) → IsBoarded plan g b → IsTied b → place < tasks.ready_tasks (underway plan input g b.started b.finished planes order).progress → place < ready_tasks_on b
 place_is plan input g b planes order place boarded tied lt = subst (λ (n : ℕ). place < n) (same_work plan input g b planes order boarded tied).ready_tasks lt
 
-pub number_lt : (b : Schedule) (step tile : ℕ) → step < length b.needs → tile < tile_count b.grid → task_number b.grid step tile < task_count b
+pub number_lt : (b : Schedule) (step tile : ℕ) → step < length b.needs → tile < tile_count b.grid → task_number b.grid step tile < task_count_on b
 number_lt b step tile within inside = number_of_cell (length b.needs) (tile_count b.grid) tile step inside within
 
-pub ready_is : (plan : Plan) (input : Level) (g : Tiling) (b : Schedule) (planes : List Tiled) (order : List ℕ) (step tile : ℕ) → IsBoarded plan g b → IsTied b → step < length b.needs → tile < tile_count b.grid → is_ready b (task_number b.grid step tile) ≡ true
+pub ready_is : (plan : Plan) (input : Level) (g : Tiling) (b : Schedule) (planes : List Tiled) (order : List ℕ) (step tile : ℕ) → IsBoarded plan g b → IsTied b → step < length b.needs → tile < tile_count b.grid → is_ready_on b (task_number b.grid step tile) ≡ true
     → tasks.is_ready (underway plan input g b.started b.finished planes order).progress (number_of (underway plan input g b.started b.finished planes order).progress step tile) ≡ true
 ready_is plan input g b planes order step tile boarded tied within inside ready =
     let p = (underway plan input g b.started b.finished planes order).progress in

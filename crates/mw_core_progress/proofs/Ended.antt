@@ -11,9 +11,9 @@ use Rattle.mw_grid.proofs.Tiles.{length-tiles_of, some_tiles}
 use Rattle.mw_core_planes.specs.mw_ready.Boards.{Turns}
 use Rattle.mw_core_planes.specs.mw_tile_planes.Tiles.{Tiled}
 use Rattle.mw_core_planes.specs.Levels.{Level}
-use Rattle.mw_core_planes.specs.Places.{shown, form, no_place, place_at, planes_shown}
-use Rattle.mw_core_planes.specs.declared.places.StepPlane.{StepPlane}
-use Rattle.mw_core_planes.specs.declared.places.StepPlane.TheVariants.{Closed, Plane, Sums}
+use Rattle.mw_core_planes.specs.StepPlanes.{shown, form, no_place, place_at, planes_shown}
+use Rattle.mw_core_planes.specs.declared.step_planes.StepPlane.{StepPlane}
+use Rattle.mw_core_planes.specs.declared.step_planes.StepPlane.TheVariants.{Closed, Plane, Sums}
 use Rattle.mw_core_progress.specs.ProgressView.{IsWhole, plane_at}
 use Rattle.mw_core_progress.specs.Parts.{underway_kept, IsPlaced}
 use Rattle.mw_core_progress.proofs.Opened.{shown_at}

@@ -14,8 +14,8 @@ use Rattle.mw_grid.proofs.Tiles.{length-tiles_of}
 use Rattle.mw_core_planes.specs.mw_ready.Boards.{Schedule, Turns, task_number}
 use Rattle.mw_core_planes.specs.mw_ready.Boards as boards
 use Rattle.mw_core_planes.specs.Levels.{Level}
-use Rattle.mw_core_planes.specs.Places.{shown, form, IsFormOf, no_place, place_at, planes_shown, is_read}
-use Rattle.mw_core_planes.specs.declared.places.StepPlane.{StepPlane}
+use Rattle.mw_core_planes.specs.StepPlanes.{shown, form, IsFormOf, no_place, place_at, planes_shown, is_read}
+use Rattle.mw_core_planes.specs.declared.step_planes.StepPlane.{StepPlane}
 use Rattle.mw_core_progress.specs.ProgressView.{IsWhole, IsFinished, number_of, no_plane, cells_of_planes}
 use Rattle.mw_core_progress.specs.Parts.{underway, underway_kept, IsBoarded, IsPlaced}
 use Rattle.mw_core_progress.proofs.Boarded.{IsTied, same_work, number_lt}
@@ -93,7 +93,7 @@ finish_here plan input turns places f whole boarded tied placed =
     let number : number_of p f.step f.tile ≡ n = ap (λ (c : ℕ). f.step * c + f.tile) (length-tiles_of g) in
     let e : Ends g b f.step f.tile f.keep f.cells planes after = ends_of plan input turns places f in
     let step-of : n / length (tiles_of g) ≡ f.step = ap (λ (c : ℕ). n / c) (length-tiles_of g) ∙ div-mul-add f.step m f.tile f.inside in
-    let lt-b : n < boards.task_count b = number_lt b f.step f.tile (omega (arith, boarded.steps, f.within)) f.inside in
+    let lt-b : n < boards.task_count_on b = number_lt b f.step f.tile (omega (arith, boarded.steps, f.within)) f.inside in
     let same = same_work plan input g b planes turns.order boarded tied in
     let lt : n < task_count p = subst (λ (c : ℕ). n < c) (sym same.count) lt-b in
     let read : is_read f.now.board f.step f.tile ≡ is_read_in (finished_with p n q) n =

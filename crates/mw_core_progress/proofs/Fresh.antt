@@ -10,9 +10,9 @@ use Rattle.mw_grid.specs.Grids.{Tiling, tile_count, tiles_of}
 use Rattle.mw_grid.proofs.Tiles.{length-tiles_of}
 use Rattle.mw_core_planes.specs.mw_tile_planes.Tiles.{Tiled}
 use Rattle.mw_core_planes.specs.Levels.{Level, no_level, level_of_source, level_of_step, levels, levels_from, closed_plane, level_of_plane}
-use Rattle.mw_core_planes.specs.Places.{form, IsFormOf, place_at, planes_shown}
-use Rattle.mw_core_planes.specs.declared.places.StepPlane.{StepPlane}
-use Rattle.mw_core_planes.specs.declared.places.StepPlane.TheVariants.{Closed}
+use Rattle.mw_core_planes.specs.StepPlanes.{form, IsFormOf, place_at, planes_shown}
+use Rattle.mw_core_planes.specs.declared.step_planes.StepPlane.{StepPlane}
+use Rattle.mw_core_planes.specs.declared.step_planes.StepPlane.TheVariants.{Closed}
 use Rattle.mw_core_progress.specs.ProgressView.{IsWorkable, IsFramed, IsWhole, cells_of_planes, fresh}
 use Rattle.mw_core_planes.specs.mw_ready.declared.need.Need.{Need}
 use Rattle.mw_core_planes.specs.mw_ready.Boards.{Schedule, Turns, no_need}
@@ -127,7 +127,7 @@ pub record Beginning (plan : Plan) (input : Level) (g : Tiling) (turns : Turns) 
   pub needs : List Need
   pub workable : IsWorkable plan input
   pub framed : IsFramed g
-  pub board : turns.board ≡ boards.fresh needs g
+  pub board : turns.board ≡ boards.fresh_schedule needs g
   pub size : length needs ≡ length plan
   pub each : (k : ℕ) → k < length plan → IsNeedOf (get_or needs k no_need) (get_or plan k nothing_planned)
   pub places_are : places ≡ map Closed (levels plan input)

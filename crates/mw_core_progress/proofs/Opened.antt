@@ -10,12 +10,12 @@ use Rattle.mw_model.specs.Plans.{Plan, is_sum}
 use Rattle.mw_model.specs.Tasks.{nothing_planned}
 use Rattle.mw_model.specs.Tasks as tasks
 use Rattle.mw_grid.specs.Grids.{Tiling, tile_count}
-use Rattle.mw_core_planes.specs.mw_ready.Boards.{Schedule, Turns, task_number, task_count}
+use Rattle.mw_core_planes.specs.mw_ready.Boards.{Schedule, Turns, task_number, task_count_on}
 use Rattle.mw_core_planes.specs.mw_ready.Boards as boards
 use Rattle.mw_core_planes.specs.mw_tile_planes.Tiles.{Tiled}
 use Rattle.mw_core_planes.specs.Levels.{Level, no_level, levels, IsLevel, level_of_plane}
-use Rattle.mw_core_planes.specs.Places.{shown, form, IsFormOf, no_place, place_at, planes_shown}
-use Rattle.mw_core_planes.specs.declared.places.StepPlane.{StepPlane}
+use Rattle.mw_core_planes.specs.StepPlanes.{shown, form, IsFormOf, no_place, place_at, planes_shown}
+use Rattle.mw_core_planes.specs.declared.step_planes.StepPlane.{StepPlane}
 use Rattle.mw_core_progress.specs.ProgressView.{IsWhole, IsStarted, no_plane}
 use Rattle.mw_core_progress.specs.Parts.{underway, underway_kept, IsBoarded, IsPlaced}
 use Rattle.mw_core_progress.proofs.Fresh.{length-levels}
@@ -129,7 +129,7 @@ open_err plan input g turns places o whole boarded placed =
 pub record Starting (turns now : Turns) (step tile : ℕ) : Type 0 where
   pub within : step < length turns.board.needs
   pub inside : tile < tile_count turns.board.grid
-  pub ready : boards.is_ready turns.board (task_number turns.board.grid step tile) ≡ true
+  pub ready : boards.is_ready_on turns.board (task_number turns.board.grid step tile) ≡ true
   pub new : now.board ≡ record turns.board { started = set turns.board.started (task_number turns.board.grid step tile) true }
 
 -- the work, once the place of the step is open and the task is started
@@ -144,8 +144,8 @@ start_whole plan input g turns now places o tile whole boarded tied placed s ope
     let ps = set places o.step o.now in
     let planes = planes_shown g ps in
     let same = same_work plan input g b planes turns.order boarded tied in
-    let count : tasks.task_count (underway plan input g b.started b.finished planes turns.order).progress ≡ task_count b = same.count in
-    let lt : n < task_count b = number_lt b o.step tile s.within s.inside in
+    let count : tasks.task_count (underway plan input g b.started b.finished planes turns.order).progress ≡ task_count_on b = same.count in
+    let lt : n < task_count_on b = number_lt b o.step tile s.within s.inside in
     let room : n < length b.started = (let w = after.0.started in omega arith) in
     let ready : tasks.is_ready (underway plan input g b.started b.finished planes turns.order).progress n ≡ true = same.ready n lt ∙ s.ready in
     let is : place_at ps o.step ≡ o.now = get_or-set_same places o.step o.now no_place size.1 in

@@ -14,10 +14,10 @@ use Rattle.mw_core_planes.specs.mw_step_task.declared.tile_result.TileResult.{Ti
 use Rattle.mw_core_planes.specs.mw_tile_planes.Tiles.{Tiled, tile_cells}
 use Rattle.mw_core_planes.specs.Levels.{Level}
 use Rattle.mw_core_planes.specs.MadeTiles.{IsTileFor, IsSmallNumber}
-use Rattle.mw_core_planes.specs.Places.{shown, form, IsFormOf, Suits, place_at, planes_shown, Swept, SweptAll}
-use Rattle.mw_core_planes.specs.declared.places.StepPlane.{StepPlane}
-use Rattle.mw_core_planes.specs.declared.places.StepPlane.TheVariants.{Closed, Plane, Sums}
-use Rattle.mw_core_progress.specs.ProgressView.{IsWhole, Fits, no_plane, number_of}
+use Rattle.mw_core_planes.specs.StepPlanes.{shown, form, IsFormOf, Suits, place_at, planes_shown, Swept, SweptAll}
+use Rattle.mw_core_planes.specs.declared.step_planes.StepPlane.{StepPlane}
+use Rattle.mw_core_planes.specs.declared.step_planes.StepPlane.TheVariants.{Closed, Plane, Sums}
+use Rattle.mw_core_progress.specs.ProgressView.{IsWhole, ResultFits, no_plane, number_of}
 use Rattle.mw_core_progress.specs.Parts.{underway, underway_kept, IsPlaced}
 use Rattle.mw_core_progress.proofs.Cells.{HasCount, all_counted, cells_at}
 use Rattle.mw_core_progress.proofs.Opened.{shown_at}
@@ -83,7 +83,7 @@ suits_sums g (Sums p) tile m e s = s
 pub record Putting (plan : Plan) (input : Level) (g : Tiling) (turns : Turns) (places swept : List StepPlane) (step tile : ℕ) (m : TileResult) : Type 0 where
   pub gone : ℕ → ℕ → Bool
   pub running : is_running (underway_kept plan input g turns places).progress (number_of (underway_kept plan input g turns places).progress step tile) ≡ true
-  pub fits : Fits (underway_kept plan input g turns places) step tile m
+  pub fits : ResultFits (underway_kept plan input g turns places) step tile m
   pub sweeps : SweptAll g gone places swept
 
 cond_of : (b : Bool) (o : Option (List ℕ)) → o ≡ None → cond b None o ≡ None

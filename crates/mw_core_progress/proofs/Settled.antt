@@ -6,7 +6,7 @@ use Rattle.std.proofs.lemmas.Bool.{cases_eq, cases_lt}
 use Rattle.std.proofs.lemmas.List.{length-map, map-set, length-set, get_or-set_same, get_or-set_other, get_or_past, ext_get_or}
 use Rattle.std.proofs.lemmas.Nat.{div-mul-add, mod-mul-add, div-add-mod', mod_below}
 use Rattle.mw_model.specs.declared.shapes.Kind.{Kind}
-use Rattle.mw_model.specs.Places.{grown}
+use Rattle.mw_model.specs.Rectangles.{grown}
 use Rattle.mw_model.specs.Plans.{Plan, is_sum}
 use Rattle.mw_model.specs.Tasks.{Progress, flag, meets, is_needed, is_step, nothing_planned}
 use Rattle.mw_model.specs.Tasks as tasks
@@ -20,8 +20,8 @@ use Rattle.mw_core_planes.specs.mw_ready.Boards as boards
 use Rattle.mw_core_planes.specs.mw_ready.Work.{SameTasks}
 use Rattle.mw_core_planes.specs.mw_tile_planes.Tiles.{Tiled}
 use Rattle.mw_core_planes.specs.Levels.{Level, no_level, level_of_plane}
-use Rattle.mw_core_planes.specs.Places.{shown, form, IsFormOf, place_at, planes_shown, Swept, SweptAll, is_read, placed_in}
-use Rattle.mw_core_planes.specs.declared.places.StepPlane.{StepPlane}
+use Rattle.mw_core_planes.specs.StepPlanes.{shown, form, IsFormOf, place_at, planes_shown, Swept, SweptAll, is_read, placed_in}
+use Rattle.mw_core_planes.specs.declared.step_planes.StepPlane.{StepPlane}
 use Rattle.mw_core_progress.specs.ProgressView.{IsWhole, number_of, no_plane, cells_of_planes}
 use Rattle.mw_core_progress.specs.Parts.{underway, underway_kept, IsBoarded, IsPlaced}
 use Rattle.mw_core_progress.proofs.Boarded.{IsTied, same_work}
@@ -43,7 +43,7 @@ board_after b n = record b { finished = set b.finished n true }
 abbrev pub reads_there : Schedule → ℕ → ℕ → ℕ → ℕ → Bool
 reads_there b step tile s v = step_reads (get_or b.needs step no_need) s && sees b.grid (get_or b.needs step no_need).reach tile v
 
-reads_is : (b : Schedule) (step tile k : ℕ) → tile < tile_count b.grid → boards.reads b.needs b.grid (task_number b.grid step tile) k ≡ reads_there b step tile (k / tile_count b.grid) (k % tile_count b.grid)
+reads_is : (b : Schedule) (step tile k : ℕ) → tile < tile_count b.grid → boards.reads_by_needs b.needs b.grid (task_number b.grid step tile) k ≡ reads_there b step tile (k / tile_count b.grid) (k % tile_count b.grid)
 reads_is b step tile k lt =
     let g = b.grid in
     let m = tile_count g in
@@ -51,13 +51,13 @@ reads_is b step tile k lt =
     ap (λ (s : ℕ). place s (task_number g step tile % m)) (div-mul-add step m tile lt) ∙ ap (λ (t : ℕ). place step t) (mod-mul-add step m tile lt)
 
 -- who still reads a tile, on the board and in the work
-pub read_is : (plan : Plan) (input : Level) (g : Tiling) (b : Schedule) (planes after : List Tiled) (order : List ℕ) (n k : ℕ) → IsBoarded plan g b → IsTied b → k < boards.task_count b
+pub read_is : (plan : Plan) (input : Level) (g : Tiling) (b : Schedule) (planes after : List Tiled) (order : List ℕ) (n k : ℕ) → IsBoarded plan g b → IsTied b → k < boards.task_count_on b
     → is_read (board_after b n) (k / tile_count b.grid) (k % tile_count b.grid) ≡ is_read_in (finished_with (underway plan input g b.started b.finished planes order).progress n (cells_of_planes after)) k
 read_is plan input g b planes after order n k boarded tied lt =
     let p = (underway plan input g b.started b.finished planes order).progress in
     let same = same_work plan input g b planes order boarded tied in
-    ap (λ (j : ℕ). list_any (λ u. not (flag (set b.finished n true) u) && boards.reads b.needs b.grid u j) (boards.tasks_below b)) (div-add-mod' k (tile_count b.grid))
-    ∙ any-same_below (λ u. not (flag (set b.finished n true) u) && boards.reads b.needs b.grid u k) (λ u. not (flag (set b.finished n true) u) && tasks.reads p u k) 0 (boards.task_count b)
+    ap (λ (j : ℕ). list_any (λ u. not (flag (set b.finished n true) u) && boards.reads_by_needs b.needs b.grid u j) (boards.tasks_on b)) (div-add-mod' k (tile_count b.grid))
+    ∙ any-same_below (λ u. not (flag (set b.finished n true) u) && boards.reads_by_needs b.needs b.grid u k) (λ u. not (flag (set b.finished n true) u) && tasks.reads p u k) 0 (boards.task_count_on b)
     (λ u u-lt. ap (λ (r : Bool). not (flag (set b.finished n true) u) && r) (sym (same.reads u k (omega (arith, u-lt)))))
     ∙ ap (λ (m : ℕ). list_any (λ u. not (flag (set b.finished n true) u) && tasks.reads p u k) (range_with_len 0 m)) (sym same.count)
 
@@ -214,7 +214,7 @@ settles_here plan input b planes after order step tile keep cells whole boarded 
     nothing : get_or (get_or planes step (no_plane b.grid)).tiles tile None ≡ None
     nothing = not_placed plan input b.grid b.started b.finished planes order step tile whole within inside unfinished
 
-    gone-is : (k : ℕ) → k < boards.task_count b → gone (k / tile_count b.grid) (k % tile_count b.grid) ≡ tasks.reads p n k && not (is_read_in (finished_with p n (cells_of_planes after)) k)
+    gone-is : (k : ℕ) → k < boards.task_count_on b → gone (k / tile_count b.grid) (k % tile_count b.grid) ≡ tasks.reads p n k && not (is_read_in (finished_with p n (cells_of_planes after)) k)
     gone-is k lt =
         ap (λ (r : Bool). r && not (is_read (board_after b n) (k / tile_count b.grid) (k % tile_count b.grid))) (sym (reads_is b step tile k inside) ∙ sym (same.reads n k (subst (λ (c : ℕ). n < c) same.count n-lt)))
         ∙ ap (λ (r : Bool). tasks.reads p n k && not r) (read_is plan input b.grid b planes after order n k boarded tied lt)

@@ -5,8 +5,8 @@ use Rattle.mw_model.specs.Plans.{Plan, is_sum, with_number}
 use Rattle.mw_model.specs.Tasks.{nothing_planned}
 use Rattle.mw_grid.specs.Grids.{Tiling}
 use Rattle.mw_core_planes.specs.mw_tile_planes.Sums.{number_in}
-use Rattle.mw_core_planes.specs.Places.{shown, no_place, place_at, planes_shown}
-use Rattle.mw_core_planes.specs.declared.places.StepPlane.{StepPlane}
+use Rattle.mw_core_planes.specs.StepPlanes.{shown, no_place, place_at, planes_shown}
+use Rattle.mw_core_planes.specs.declared.step_planes.StepPlane.{StepPlane}
 use Rattle.mw_core_progress.specs.ProgressView.{numbers_of}
 
 -- one step more

@@ -3,8 +3,8 @@ use Rattle.std.proofs.Common.{◌≡◌, ◌≢◌, ℕ, ◌<◌, ◌≤◌, Boo
 use Rattle.std.proofs.lemmas.List.{length-map, get_or_read}
 use Rattle.mw_model.proofs.mw_facts.Tests.{none-not_some}
 use Rattle.mw_model.proofs.mw_facts.Elements.{get_or-replicate_same}
-use Rattle.mw_model.specs.declared.places.Rect.{Rect}
-use Rattle.mw_model.specs.Places.{Holds, IsWithin}
+use Rattle.mw_model.specs.declared.offsets.Rect.{Rect}
+use Rattle.mw_model.specs.Rectangles.{Holds, IsWithin}
 use Rattle.mw_model.specs.Plans.{Plan, is_sum}
 use Rattle.mw_model.specs.Tasks.{nothing_planned}
 use Rattle.mw_grid.specs.Grids.{Tiling, tile_count, tile_at}
@@ -12,9 +12,9 @@ use Rattle.mw_grid.proofs.Tiles.{HasTiles, cover_once, length-tiles_of, tile_of-
 use Rattle.mw_core_planes.specs.mw_ready.Boards.{Turns}
 use Rattle.mw_core_planes.specs.mw_tile_planes.Tiles.{Tiled, HasAll, tile_cells}
 use Rattle.mw_core_planes.specs.Levels.{Level, closed_plane}
-use Rattle.mw_core_planes.specs.Places.{shown, form, IsFormOf, no_place, place_at, planes_shown}
-use Rattle.mw_core_planes.specs.declared.places.StepPlane.{StepPlane}
-use Rattle.mw_core_planes.specs.declared.places.StepPlane.TheVariants.{Closed, Plane, Sums}
+use Rattle.mw_core_planes.specs.StepPlanes.{shown, form, IsFormOf, no_place, place_at, planes_shown}
+use Rattle.mw_core_planes.specs.declared.step_planes.StepPlane.{StepPlane}
+use Rattle.mw_core_planes.specs.declared.step_planes.StepPlane.TheVariants.{Closed, Plane, Sums}
 use Rattle.mw_core_progress.specs.ProgressView.{ProgressView, IsFramed, IsWhole, plane_at}
 use Rattle.mw_core_progress.specs.Parts.{underway_kept, IsPlaced}
 use Rattle.mw_core_progress.proofs.Opened.{shown_at}

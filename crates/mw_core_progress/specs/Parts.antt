@@ -7,8 +7,8 @@ use Rattle.mw_core_planes.specs.mw_ready.Boards.{Schedule, Turns, no_need}
 use Rattle.mw_core_planes.specs.mw_ready.Work.{IsNeedOf}
 use Rattle.mw_core_planes.specs.mw_tile_planes.Tiles.{Tiled}
 use Rattle.mw_core_planes.specs.Levels.{Level}
-use Rattle.mw_core_planes.specs.Places.{form, IsFormOf, place_at, planes_shown}
-use Rattle.mw_core_planes.specs.declared.places.StepPlane.{StepPlane}
+use Rattle.mw_core_planes.specs.StepPlanes.{form, IsFormOf, place_at, planes_shown}
+use Rattle.mw_core_planes.specs.declared.step_planes.StepPlane.{StepPlane}
 use Rattle.mw_core_progress.specs.ProgressView.{ProgressView, cells_of_planes}
 
 -- the work of these parts
@@ -29,7 +29,7 @@ underway plan input g started finished planes order = record {
   order = order;
 }
 
--- the same, of tasks in turn and of the places of planes
+-- work that is under way, told by its tasks in turn and by the places of its planes
 abbrev pub underway_kept : Plan → Level → Tiling → Turns → List StepPlane → ProgressView
 underway_kept plan input g turns places =
     underway plan input g turns.board.started turns.board.finished (planes_shown g places) turns.order

@@ -2,8 +2,8 @@
 use Rattle.std.specs.Prelude.{ℕ, ◌≡◌, ◌+◌, ◌*◌, ◌<◌, ◌≤◌, ◌⊎◌, ◌↔◌, Bool, true, false, not, ◌||◌, List, [], ◌∷◌, length, map, flat_map, replicate, slice_index_or, slice_set, Option, Some, None, IsSome}
 use Rattle.std.specs.List.{AllByRecursion, list_all}
 use Rattle.mw_model.specs.declared.shapes.Kind.TheVariants as kind
-use Rattle.mw_model.specs.declared.limits.TheConstants.{SIDE_LIMIT, TILE_SIDE_LIMIT, TILE_SIDE_UNIT}
-use Rattle.mw_model.specs.Plans.{Plan, Source, FromStep, IsSourceAt, is_sum, with_number}
+use Rattle.mw_model.specs.declared.limits.TheConstants.{SIDE_LIMIT, STEP_LIMIT, TILE_SIDE_LIMIT, TILE_SIDE_UNIT}
+use Rattle.mw_model.specs.Plans.{Plan, IsSourceAt, is_sum, with_number}
 use Rattle.mw_model.specs.Tasks.{Progress, flag, task_count, tasks_below, nothing_planned, reads, is_needed, remaining_tasks}
 use Rattle.mw_grid.specs.Grids.{Tiling, tile_count, tiles_of}
 use Rattle.mw_core_planes.specs.mw_step_task.declared.tile_result.TileResult.{TileResult}
@@ -11,6 +11,7 @@ use Rattle.mw_core_planes.specs.mw_tile_planes.Tiles.{Tiled, nothing_placed}
 use Rattle.mw_core_planes.specs.mw_tile_planes.Sums.{number_in}
 use Rattle.mw_core_planes.specs.Levels.{Level, IsLevel, level_of_plane, levels}
 use Rattle.mw_core_planes.specs.MadeTiles.{IsTileFor, IsSmallNumber}
+pub use Rattle.mw_core_planes.specs.mw_plan.PlansOf.{IsPlaneSource}
 
 -- What is known of the work under a ticket: its tasks, the level of the image that it reads, the frame with its tiles, what is kept of the plane of each step (of a Sum step the number of each tile, as its only cell), and the order in which ready tasks are handed out.
 pub record ProgressView : Type 0 where
@@ -22,15 +23,10 @@ pub record ProgressView : Type 0 where
 
 -- ---- plans that can be worked off
 
--- the source is no Sum step, whose numbers are no plane
-abbrev pub IsPlaneSource : Plan → Source → Type 0
-IsPlaneSource plan (FromStep k) = is_sum (slice_index_or plan k nothing_planned).step ≡ false
-IsPlaneSource plan s = Unit {0}
-
--- The plan has from 1 to 896 steps; each source is the only image or an earlier step that makes a plane; and each step has a level.
+-- The plan has from 1 to STEP_LIMIT steps; each source is the only image or an earlier step that makes a plane; and each step has a level.
 pub record IsWorkable (plan : Plan) (input : Level) : Type 0 where
   pub some : 1 ≤ length plan
-  pub few : length plan ≤ 896
+  pub few : length plan ≤ STEP_LIMIT
   pub sources : (k : ℕ) → AllByRecursion (IsSourceAt 1 k) (slice_index_or plan k nothing_planned).sources
   pub planes : (k : ℕ) → AllByRecursion (IsPlaneSource plan) (slice_index_or plan k nothing_planned).sources
   pub levels : AllByRecursion IsLevel (levels plan input)
@@ -103,7 +99,7 @@ fresh plan input g = record {
 -- ---- what tasks make
 
 -- what was made fits the step and the tile
-pub record Fits (u : ProgressView) (step tile : ℕ) (m : TileResult) : Type 0 where
+pub record ResultFits (u : ProgressView) (step tile : ℕ) (m : TileResult) : Type 0 where
   pub within : step < length u.progress.plan
   pub inside : tile < tile_count u.tiling
   pub number : is_sum (slice_index_or u.progress.plan step nothing_planned).step ≡ true → IsSmallNumber m

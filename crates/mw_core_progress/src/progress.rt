@@ -4,13 +4,12 @@ ghost use Rattle.std.specs.Prelude.{◌≡◌, ℕ, ◌+◌, ◌<◌, ◌≤◌,
 ghost use Rattle.mw_model.specs.Plans.{is_sum};
 ghost use Rattle.mw_model.specs.Tasks.{nothing_planned};
 ghost use Rattle.mw_grid.specs.Grids.{tile_count};
-ghost use Rattle.mw_core_planes.specs.mw_step_task.Meanings.{meaning};
-ghost use Rattle.mw_core_planes.specs.Places.{is_read, form, IsFormOf, place_at, planes_shown};
+ghost use Rattle.mw_core_planes.specs.StepPlanes.{is_read, form, IsFormOf, place_at, planes_shown};
 ghost use Rattle.mw_core_progress.specs.ProgressView.{numbers_of};
 
 use mw_core_planes::{
-    Plan, PlaneLevel, PlannedStep, Ready, SharedWindow, Step, StepPlane, TileResult, TiledPlane,
-    closed, drop_read, levels_of, needs_of, tasks_are_those_of_work,
+    Plan, PlaneLevel, PlannedStep, Ready, SharedWindow, StepPlane, TileResult, TiledPlane, closed,
+    drop_read, levels_of, needs_of, tasks_are_those_of_work,
 };
 use mw_grid::Grid;
 use mw_model::{Kind, NoMemory, Rect};
@@ -45,16 +44,6 @@ impl Model for PlanProgress {
         × (length a.plan ≤ vec_capacity a.numbers) };
 }
 
-/// Whether the step makes a number.
-fn is_sum(step: &Step) -> bool
-    ensures { result ≡ is_sum (meaning step.now) }
-{
-    match step {
-        Step::Sum => true,
-        _ => false,
-    }
-}
-
 /// Whether what the task makes is kept: it is of the last step, or a number, or an unfinished task reads it.
 fn is_kept(plan: &Plan, ready: &Ready, step: u32, tile: u32) -> bool
     requires step { step < length plan.now }
@@ -63,7 +52,7 @@ fn is_kept(plan: &Plan, ready: &Ready, step: u32, tile: u32) -> bool
     ensures { result ≡ nat_eq (step + 1) (length plan.now) || is_sum (slice_index_or plan.now step nothing_planned).step || is_read ready.now.board step tile }
 {
     step as usize + 1 == plan.len()
-        || is_sum(&plan.step(step as usize).step)
+        || plan.step(step as usize).step.is_sum()
         || ready.is_read(step, tile)
 }
 
@@ -76,7 +65,7 @@ fn add_numbers(plan: &Plan, places: &[StepPlane], grid: Grid, numbers: &mut Vec<
     ensures { numbers.new.items ≡ numbers_of plan.now (planes_shown grid places.now) }
 {
     for k in 0..plan.len() {
-        if is_sum(&plan.step(k).step) {
+        if plan.step(k).step.is_sum() {
             numbers.push_reserved(places[k].total(grid));
         }
     }
@@ -88,7 +77,7 @@ fn let_go(_made: TileResult) {}
 impl PlanProgress {
     ghost use Rattle.std.specs.Prelude.{ℕ, ◌+◌, ◌-◌, ◌*◌, ◌<◌, ◌≤◌, ◌↔◌, IsTrue, IfOk, OnOk, OnErr, true, false, length, map, slice_index, slice_index_or};
     ghost use Rattle.mw_model.specs.Pictures.{Picture};
-    ghost use Rattle.mw_model.specs.Places.{IsWithin};
+    ghost use Rattle.mw_model.specs.Rectangles.{IsWithin};
     ghost use Rattle.mw_model.specs.Tasks.{nothing_planned, is_ready, is_running, ready_tasks, running_tasks, remaining_tasks};
     ghost use Rattle.mw_core_planes.specs.mw_tile.Windows.{window_of};
     ghost use Rattle.mw_core_planes.specs.mw_step_task.WindowTasks.{IsBounded};
@@ -96,7 +85,7 @@ impl PlanProgress {
     ghost use Rattle.mw_core_planes.specs.mw_plan.Seen.{planned};
     ghost use Rattle.mw_core_planes.specs.Levels.{levels, closed_plane};
     ghost use Rattle.mw_core_planes.specs.MadeTiles.{cells_of_made};
-    ghost use Rattle.mw_core_progress.specs.ProgressView.{IsWorkable, IsWhole, IsStarted, IsFinished, Fits, fresh, number_of, numbers_of, plane_at};
+    ghost use Rattle.mw_core_progress.specs.ProgressView.{IsWorkable, IsWhole, IsStarted, IsFinished, ResultFits, fresh, number_of, numbers_of, plane_at};
 
     /// The work of a plan that reads one image of this kind and maxval, on a frame of the grid. Nothing of it was started.
     ///
@@ -210,7 +199,7 @@ impl PlanProgress {
     {
         tasks_are_those_of_work(&self.ready);
         let (step, _tile) = self.ready.task_at(place);
-        let sums = is_sum(&self.plan.step(step as usize).step);
+        let sums = self.plan.step(step as usize).step.is_sum();
         self.places[step as usize].open(alloc, self.grid, sums)?;
         let _task = self.ready.start(place);
         Ok(())
@@ -278,7 +267,7 @@ impl PlanProgress {
     /// read is dropped. This takes no memory.
     pub fn finish(&mut self, step: u32, tile: u32, made: TileResult)
         requires running { is_running self.old.progress (number_of self.old.progress step tile) ≡ true }
-        requires fits { Fits self.old step tile made }
+        requires fits { ResultFits self.old step tile made }
         ensures finished { IsFinished self.old self.new (number_of self.old.progress step tile) (cells_of_made made) }
         ensures whole { IsWhole self.new }
     {

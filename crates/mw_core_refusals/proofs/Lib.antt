@@ -1,5 +1,5 @@
 -- the crate's own
-mod ElementLemmas
+mod FoundLemmas
 -- what lower crates offer
 pub use Rattle.mw_store.proofs.mw_model_laws as mw_model_laws
 pub use Rattle.mw_store.proofs.mw_pixel as mw_pixel

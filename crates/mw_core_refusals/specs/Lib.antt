@@ -1,5 +1,6 @@
 pub mod Checks
 pub mod Faults
+pub mod Found
 -- what lower crates offer
 pub mod mw_model_laws
 pub mod mw_pixel

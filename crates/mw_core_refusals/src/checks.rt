@@ -1,19 +1,20 @@
 //! Why a call is refused: the first case that holds.
 
-ghost use Rattle.std.specs.Prelude.{◌≡◌, ℕ, ◌<◌, ◌≤◌, ◌∷◌, [], length, Some, None, OnOk, IfOk, not};
+ghost use Rattle.std.specs.Prelude.{◌≡◌, ℕ, ◌<◌, ◌∷◌, [], length, Some, None, OnOk, IfOk, false};
 ghost use Rattle.std.specs.List.{AllByRecursion};
 ghost use Rattle.mw_model.specs.Values.{tickets};
-ghost use Rattle.mw_model.specs.Elements.{holds_origin};
-ghost use Rattle.mw_model.specs.Refusals.{refusal, when, name_taken, no_room, input_case, is_image, is_element, ticket_of, ticket, outcome_at, param_case, AnImage, AnElement};
+ghost use Rattle.mw_model.specs.Refusals.{refusal, name_taken, no_room, input_case, inputs_wanted, is_image, is_element, ticket_of, ticket, outcome_at, AnImage, AnElement};
 ghost use Rattle.mw_model.specs.Machine.{run_submission, reply_from, status_reply};
-ghost use Rattle.mw_core_refusals.specs.Checks.{refused, state_case, inputs_case, flat_case, gran_case, kept_offsets};
+ghost use Rattle.mw_plan.specs.Asked.{fault_in};
+ghost use Rattle.mw_core_refusals.specs.Checks.{refused, state_case, inputs_case};
+ghost use Rattle.mw_core_refusals.specs.Found.{AreFound, IsFoundElement, IsFoundImage};
 
-use crate::{elements, shapes};
 use mw_model::{
-    Call, Code, Command, ENTRY_LIMIT, FlatOp, Given, GranOp, Inputs, LEVEL_LIMIT, Name, Op,
-    Outcome, Reply, Shape, Submission,
+    Call, Code, Command, ENTRY_LIMIT, FlatOp, Given, GranOp, Inputs, Name, Op, Outcome, Reply,
+    Shape, Submission,
 };
-use mw_store::{Store, is_dead, is_released};
+use mw_plan::{Input, shape_of};
+use mw_store::{ResolvedRun, Store};
 
 fn free(store: &Store, name: Name) -> Result<(), Code>
     ensures code { refused result ≡ name_taken store.now.table name }
@@ -40,243 +41,161 @@ fn room(store: &Store) -> Result<(), Code>
 fn usable(outcome: Outcome) -> Result<(), Code>
     ensures { refused result ≡ state_case outcome }
 {
-    if is_dead(outcome) {
+    if outcome.is_dead() {
         Err(Code::Dead)
-    } else if is_released(outcome) {
+    } else if outcome.is_released() {
         Err(Code::Released)
     } else {
         Ok(())
     }
 }
 
-fn image(store: &Store, name: Name) -> Result<u32, Code>
+/// The ticket of an image, and what a plan is told of it.
+fn image(store: &Store, name: Name) -> Result<(u32, Input<'_>), Code>
     ensures code { refused result ≡ input_case store.now.table is_image name }
-    ensures ok { IfOk result (λ t. ticket_of store.now.table.names name ≡ Some t) }
-    ensures within { IfOk result (λ t. t < length store.now.table.names) }
+    ensures found { IfOk result (λ f. IsFoundImage store.now name f.0 f.1) }
 {
     let Some(t) = store.find(name) else {
         return Err(Code::Unknown);
     };
-    if !shapes::is_image(store.shape(t)) {
+    let shape = store.shape(t);
+    if !shape.is_image() {
         return Err(Code::Kind);
     }
     usable(store.outcome(t))?;
-    Ok(t)
+    Ok((t, Input::Image(shape)))
 }
 
-fn element(store: &Store, name: Name) -> Result<u32, Code>
+/// The ticket of an element, and what a plan is told of it.
+fn element(store: &Store, name: Name) -> Result<(u32, Input<'_>), Code>
     ensures code { refused result ≡ input_case store.now.table is_element name }
-    ensures ok { IfOk result (λ t. ticket_of store.now.table.names name ≡ Some t) }
-    ensures within { IfOk result (λ t. t < length store.now.table.names) }
+    ensures found { IfOk result (λ f. IsFoundElement store.now name f.0 f.1) }
 {
     let Some(t) = store.find(name) else {
         return Err(Code::Unknown);
     };
-    if !shapes::is_element(store.shape(t)) {
+    if !store.shape(t).is_element() {
         return Err(Code::Kind);
     }
     usable(store.outcome(t))?;
-    Ok(t)
+    let Some(element) = store.element(t) else {
+        unreachable!()
+    };
+    Ok((t, Input::Element(element)))
 }
 
-/// An image and an element.
-fn pair(store: &Store, f: Name, b: Name) -> Result<(u32, u32), Code>
+/// The inputs of a RUN: their tickets, and what a plan is told of them.
+#[derive(Clone, Copy)]
+struct FoundInputs<'a> {
+    tickets: Inputs,
+    a: Input<'a>,
+    b: Input<'a>,
+    c: Input<'a>,
+}
+
+fn one_input(store: &Store, f: Name) -> Result<FoundInputs<'_>, Code>
+    ensures code { refused result ≡ inputs_case store.now.table (AnImage f ∷ []) }
+    ensures found { IfOk result (λ r. AreFound store.now (AnImage f ∷ []) r.tickets r.a r.b r.c) }
+{
+    let (t, a) = image(store, f)?;
+    Ok(FoundInputs {
+        tickets: Inputs {
+            a: Some(t),
+            b: None,
+            c: None,
+        },
+        a,
+        b: Input::Absent,
+        c: Input::Absent,
+    })
+}
+
+fn two_inputs(store: &Store, f: Name, b: Name) -> Result<FoundInputs<'_>, Code>
     ensures code { refused result ≡ inputs_case store.now.table (AnImage f ∷ AnElement b ∷ []) }
-    ensures image { IfOk result (λ p. ticket_of store.now.table.names f ≡ Some p.0) }
-    ensures element { IfOk result (λ p. ticket_of store.now.table.names b ≡ Some p.1) }
-    ensures image_within { IfOk result (λ p. p.0 < length store.now.table.names) }
-    ensures element_within { IfOk result (λ p. p.1 < length store.now.table.names) }
+    ensures found { IfOk result (λ r. AreFound store.now (AnImage f ∷ AnElement b ∷ []) r.tickets r.a r.b r.c) }
 {
-    let x = image(store, f)?;
-    let y = element(store, b)?;
-    Ok((x, y))
+    let (t, first) = image(store, f)?;
+    let (u, second) = element(store, b)?;
+    Ok(FoundInputs {
+        tickets: Inputs {
+            a: Some(t),
+            b: Some(u),
+            c: None,
+        },
+        a: first,
+        b: second,
+        c: Input::Absent,
+    })
 }
 
-fn param(first: usize, last: usize, k: u32) -> Result<(), Code>
-    ensures code { refused result ≡ param_case first last k }
-    ensures first { OnOk result (first ≤ k) }
-    ensures last { OnOk result (k ≤ last) }
+fn three_inputs(store: &Store, f: Name, hit: Name, miss: Name) -> Result<FoundInputs<'_>, Code>
+    ensures code { refused result ≡ inputs_case store.now.table (AnImage f ∷ AnElement hit ∷ AnElement miss ∷ []) }
+    ensures found { IfOk result (λ r. AreFound store.now (AnImage f ∷ AnElement hit ∷ AnElement miss ∷ []) r.tickets r.a r.b r.c) }
 {
-    if first <= k as usize && k as usize <= last {
-        Ok(())
-    } else {
-        Err(Code::Param)
-    }
+    let (t, first) = image(store, f)?;
+    let (u, second) = element(store, hit)?;
+    let (v, third) = element(store, miss)?;
+    Ok(FoundInputs {
+        tickets: Inputs {
+            a: Some(t),
+            b: Some(u),
+            c: Some(v),
+        },
+        a: first,
+        b: second,
+        c: third,
+    })
 }
 
-fn origin(store: &Store, b: u32) -> Result<(), Code>
-    requires { b < length store.now.table.names }
-    ensures { refused result ≡ when (not (holds_origin (kept_offsets store.now.kept b))) Code.NoOrigin }
-{
-    if elements::holds_origin(store, b) {
-        Ok(())
-    } else {
-        Err(Code::NoOrigin)
-    }
-}
-
-fn submission(op: Op, shape: Shape, a: u32, b: Option<u32>, c: Option<u32>) -> Submission
-    ensures { result ≡ record { shape = shape; command = Command.Run op; inputs = record { a = Some a; b = b; c = c } } }
-{
-    Submission {
-        shape,
-        command: Command::Run(op),
-        inputs: Inputs { a: Some(a), b, c },
-    }
-}
-
-fn of_rank(store: &Store, f: Name, b: Name, k: u32) -> Result<Submission, Code>
-    ensures code { refused result ≡ flat_case store.now.table store.now.kept (FlatOp.Rank f b k) }
-    ensures submission { IfOk result (λ s. s ≡ run_submission store.now.table (Op.Flat (FlatOp.Rank f b k))) }
-    ensures below { IfOk result (λ s. AllByRecursion (λ i. i < length store.now.table.names) (tickets s.inputs)) }
-{
-    let (x, y) = pair(store, f, b)?;
-    origin(store, y)?;
-    param(1, elements::size(store, y), k)?;
-    Ok(submission(
-        Op::Flat(FlatOp::Rank(f, b, k)),
-        store.shape(x),
-        x,
-        Some(y),
-        None,
-    ))
-}
-
-fn of_threshold(store: &Store, f: Name, k: u32) -> Result<Submission, Code>
-    ensures code { refused result ≡ flat_case store.now.table store.now.kept (FlatOp.Threshold f k) }
-    ensures submission { IfOk result (λ s. s ≡ run_submission store.now.table (Op.Flat (FlatOp.Threshold f k))) }
-    ensures below { IfOk result (λ s. AllByRecursion (λ i. i < length store.now.table.names) (tickets s.inputs)) }
-{
-    let x = image(store, f)?;
-    param(0, LEVEL_LIMIT as usize, k)?;
-    Ok(submission(
-        Op::Flat(FlatOp::Threshold(f, k)),
-        shapes::as_bits(store.shape(x)),
-        x,
-        None,
-        None,
-    ))
-}
-
-fn of_hit_miss(store: &Store, f: Name, hit: Name, miss: Name) -> Result<Submission, Code>
-    ensures code { refused result ≡ flat_case store.now.table store.now.kept (FlatOp.HitMiss f hit miss) }
-    ensures submission { IfOk result (λ s. s ≡ run_submission store.now.table (Op.Flat (FlatOp.HitMiss f hit miss))) }
-    ensures below { IfOk result (λ s. AllByRecursion (λ i. i < length store.now.table.names) (tickets s.inputs)) }
-{
-    let (x, y) = pair(store, f, hit)?;
-    let z = element(store, miss)?;
-    if elements::overlap(store, y, z) {
-        return Err(Code::Overlap);
-    }
-    Ok(submission(
-        Op::Flat(FlatOp::HitMiss(f, hit, miss)),
-        store.shape(x),
-        x,
-        Some(y),
-        Some(z),
-    ))
-}
-
-fn of_flat(store: &Store, op: FlatOp) -> Result<Submission, Code>
-    ensures code { refused result ≡ flat_case store.now.table store.now.kept op }
-    ensures submission { IfOk result (λ s. s ≡ run_submission store.now.table (Op.Flat op)) }
-    ensures below { IfOk result (λ s. AllByRecursion (λ i. i < length store.now.table.names) (tickets s.inputs)) }
+fn inputs(store: &Store, op: Op) -> Result<FoundInputs<'_>, Code>
+    ensures code { refused result ≡ inputs_case store.now.table (inputs_wanted op) }
+    ensures found { IfOk result (λ r. AreFound store.now (inputs_wanted op) r.tickets r.a r.b r.c) }
 {
     match op {
-        FlatOp::Erode(f, b)
-        | FlatOp::Dilate(f, b)
-        | FlatOp::Opening(f, b)
-        | FlatOp::Closing(f, b)
-        | FlatOp::Gradient(f, b)
-        | FlatOp::WhiteTopHat(f, b)
-        | FlatOp::BlackTopHat(f, b) => {
-            let (x, y) = pair(store, f, b)?;
-            Ok(submission(Op::Flat(op), store.shape(x), x, Some(y), None))
-        }
-        FlatOp::Rank(f, b, k) => of_rank(store, f, b, k),
-        FlatOp::Threshold(f, k) => of_threshold(store, f, k),
-        FlatOp::HitMiss(f, hit, miss) => of_hit_miss(store, f, hit, miss),
+        Op::Flat(FlatOp::Threshold(f, _)) => one_input(store, f),
+        Op::Flat(FlatOp::HitMiss(f, hit, miss)) => three_inputs(store, f, hit, miss),
+        Op::Flat(
+            FlatOp::Erode(f, b)
+            | FlatOp::Dilate(f, b)
+            | FlatOp::Opening(f, b)
+            | FlatOp::Closing(f, b)
+            | FlatOp::Gradient(f, b)
+            | FlatOp::WhiteTopHat(f, b)
+            | FlatOp::BlackTopHat(f, b)
+            | FlatOp::Rank(f, b, _),
+        ) => two_inputs(store, f, b),
+        Op::Gran(
+            GranOp::Skeleton(f, b, _) | GranOp::Restore(f, b, _) | GranOp::Spectrum(f, b, _),
+        ) => two_inputs(store, f, b),
     }
 }
 
-fn of_skeleton(store: &Store, f: Name, b: Name, levels: u32) -> Result<Submission, Code>
-    ensures code { refused result ≡ gran_case store.now.table store.now.kept (GranOp.Skeleton f b levels) }
-    ensures submission { IfOk result (λ s. s ≡ run_submission store.now.table (Op.Gran (GranOp.Skeleton f b levels))) }
-    ensures below { IfOk result (λ s. AllByRecursion (λ i. i < length store.now.table.names) (tickets s.inputs)) }
-{
-    let (x, y) = pair(store, f, b)?;
-    if !shapes::is_binary(store.shape(x)) {
-        return Err(Code::Binary);
-    }
-    origin(store, y)?;
-    param(1, 254, levels)?;
-    let shape = shapes::as_grey(levels as u16 + 1, store.shape(x));
-    Ok(submission(
-        Op::Gran(GranOp::Skeleton(f, b, levels)),
-        shape,
-        x,
-        Some(y),
-        None,
-    ))
-}
-
-fn of_restore(store: &Store, f: Name, b: Name, levels: u32) -> Result<Submission, Code>
-    ensures code { refused result ≡ gran_case store.now.table store.now.kept (GranOp.Restore f b levels) }
-    ensures submission { IfOk result (λ s. s ≡ run_submission store.now.table (Op.Gran (GranOp.Restore f b levels))) }
-    ensures below { IfOk result (λ s. AllByRecursion (λ i. i < length store.now.table.names) (tickets s.inputs)) }
-{
-    let (x, y) = pair(store, f, b)?;
-    param(1, 254, levels)?;
-    Ok(submission(
-        Op::Gran(GranOp::Restore(f, b, levels)),
-        shapes::as_bits(store.shape(x)),
-        x,
-        Some(y),
-        None,
-    ))
-}
-
-fn of_spectrum(store: &Store, f: Name, b: Name, levels: u32) -> Result<Submission, Code>
-    ensures code { refused result ≡ gran_case store.now.table store.now.kept (GranOp.Spectrum f b levels) }
-    ensures submission { IfOk result (λ s. s ≡ run_submission store.now.table (Op.Gran (GranOp.Spectrum f b levels))) }
-    ensures below { IfOk result (λ s. AllByRecursion (λ i. i < length store.now.table.names) (tickets s.inputs)) }
-{
-    let (x, y) = pair(store, f, b)?;
-    param(1, 32, levels)?;
-    Ok(submission(
-        Op::Gran(GranOp::Spectrum(f, b, levels)),
-        Shape::Curve(levels + 1),
-        x,
-        Some(y),
-        None,
-    ))
-}
-
-fn of_gran(store: &Store, op: GranOp) -> Result<Submission, Code>
-    ensures code { refused result ≡ gran_case store.now.table store.now.kept op }
-    ensures submission { IfOk result (λ s. s ≡ run_submission store.now.table (Op.Gran op)) }
-    ensures below { IfOk result (λ s. AllByRecursion (λ i. i < length store.now.table.names) (tickets s.inputs)) }
-{
-    match op {
-        GranOp::Skeleton(f, b, levels) => of_skeleton(store, f, b, levels),
-        GranOp::Restore(f, b, levels) => of_restore(store, f, b, levels),
-        GranOp::Spectrum(f, b, levels) => of_spectrum(store, f, b, levels),
-    }
-}
-
-/// What stands in the table for a RUN, or why it is refused.
-pub fn of_run(store: &Store, name: Name, op: Op) -> Result<Submission, Code>
+/// What stands in the table for a RUN, with its inputs as a plan is told of them, or why it is refused.
+pub fn of_run(store: &Store, name: Name, op: Op) -> Result<ResolvedRun<'_>, Code>
     ensures code { refused result ≡ refusal store.now.table store.now.kept (Call.Run name op) }
-    ensures submission { IfOk result (λ s. s ≡ run_submission store.now.table op) }
-    ensures below { IfOk result (λ s. AllByRecursion (λ i. i < length store.now.table.names) (tickets s.inputs)) }
+    ensures submission { IfOk result (λ r. r.submission ≡ run_submission store.now.table op) }
+    ensures below { IfOk result (λ r. AllByRecursion (λ i. i < length store.now.table.names) (tickets r.submission.inputs)) }
+    ensures inputs { IfOk result (λ r. AreFound store.now (inputs_wanted op) r.submission.inputs r.a r.b r.c) }
+    ensures faultless { IfOk result (λ r. fault_in op r.a r.b r.c ≡ None) }
+    ensures made { IfOk result (λ r. is_element r.submission.shape ≡ false) }
     ensures free { OnOk result (ticket_of store.now.table.names name ≡ None) }
     ensures room { OnOk result (length store.now.table.names < ENTRY_LIMIT) }
 {
     free(store, name)?;
     room(store)?;
-    match op {
-        Op::Flat(op) => of_flat(store, op),
-        Op::Gran(op) => of_gran(store, op),
+    let found = inputs(store, op)?;
+    match shape_of(&op, found.a, found.b, found.c) {
+        Err(fault) => Err(fault.code()),
+        Ok(shape) => Ok(ResolvedRun {
+            submission: Submission {
+                shape,
+                command: Command::Run(op),
+                inputs: found.tickets,
+            },
+            a: found.a,
+            b: found.b,
+            c: found.c,
+        }),
     }
 }
 
@@ -361,7 +280,7 @@ pub fn fetch_reply(store: &Store, name: Name) -> Reply
     let Some(t) = store.find(name) else {
         return Reply::Refused(Code::Unknown);
     };
-    if shapes::is_element(store.shape(t)) {
+    if store.shape(t).is_element() {
         return Reply::Refused(Code::Kind);
     }
     match store.outcome(t) {

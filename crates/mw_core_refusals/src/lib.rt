@@ -3,8 +3,6 @@
 #![tactic(auto)]
 
 mod checks;
-mod elements;
-mod shapes;
 
 pub use checks::{fetch_reply, of_cancel, of_given, of_release, of_run, status_reply};
 

@@ -3,7 +3,7 @@ use Rattle.std.proofs.Common.{◌≡◌, ◌≢◌, ℕ, zero, suc, ◌+◌, ◌
 use Rattle.std.proofs.Math.Nat.{pow-suc}
 use Rattle.std.proofs.lemmas.Bool.{cases_lt, cases_eq}
 use Rattle.std.proofs.lemmas.List.{ext_get_or, get_or-take, get_or-drop, length-take-le, get_or_append_left, get_or_push}
-use Rattle.mw_core_sums.specs.Trees.{span, leaves, IsPower, Uses}
+use Rattle.mw_core_sums.specs.Trees.{span_sum, leaves, IsPower, Uses}
 use Rattle.mw_core_sums.proofs.Spans.{span-add, span-same, span-none, sum-span}
 use Rattle.mw_core_sums.proofs.Nodes.{node_span}
 
@@ -30,12 +30,12 @@ leaves-push t s room n v t-size s-size lt here others =
     ])
 
 -- sums of leaves
-pub sum-first : (t : List ℕ) (room n k : ℕ) → length t ≡ 2 * room → n ≤ room → k ≤ n → sum (take k (leaves t room n)) ≡ span t room k
+pub sum-first : (t : List ℕ) (room n k : ℕ) → length t ≡ 2 * room → n ≤ room → k ≤ n → sum (take k (leaves t room n)) ≡ span_sum t room k
 sum-first t room n k size n-le k-le =
     sum-span (leaves t room n) k (let e = length-leaves t room n size n-le in omega arith)
     ∙ span-same (leaves t room n) t 0 room k (λ j lt. ap (λ (i : ℕ). get_or (leaves t room n) i 0) (zero-add j) ∙ leaf-at t room n j (omega arith))
 
-pub sum-all : (t : List ℕ) (room n : ℕ) → length t ≡ 2 * room → n ≤ room → sum (leaves t room n) ≡ span t room n
+pub sum-all : (t : List ℕ) (room n : ℕ) → length t ≡ 2 * room → n ≤ room → sum (leaves t room n) ≡ span_sum t room n
 sum-all t room n size le =
     sum-span (drop room t) n (omega (arith, length-drop room t))
     ∙ span-same (drop room t) t 0 room n (λ j lt. ap (λ (i : ℕ). get_or (drop room t) i 0) (zero-add j) ∙ get_or-drop room t j 0)
@@ -47,14 +47,14 @@ root_is t room n uses some =
     let power = tree.power some in
     let is = power.is in
     let h = power.height in
-    let whole : get_or t 1 0 ≡ span t (1 * 2 ^ h) (2 ^ h) = node_span t room h 1 tree.sums (omega arith) (omega arith) in
+    let whole : get_or t 1 0 ≡ span_sum t (1 * 2 ^ h) (2 ^ h) = node_span t room h 1 tree.sums (omega arith) (omega arith) in
     let there : 1 * 2 ^ h ≡ room = omega arith in
     let split : 2 ^ h ≡ n + (room - n) = let le = uses.within in omega arith in
     whole
-    ∙ ap (λ (k : ℕ). span t k (2 ^ h)) there
-    ∙ ap (span t room) split
+    ∙ ap (λ (k : ℕ). span_sum t k (2 ^ h)) there
+    ∙ ap (span_sum t room) split
     ∙ span-add t room n (room - n)
-    ∙ (let none : span t (room + n) (room - n) ≡ 0 = span-none t (room + n) (room - n) (λ j lt. ap (λ (k : ℕ). get_or t k 0) (along room n j) ∙ uses.rest (n + j) (omega arith) (let le = uses.within in omega arith)) in
+    ∙ (let none : span_sum t (room + n) (room - n) ≡ 0 = span-none t (room + n) (room - n) (λ j lt. ap (λ (k : ℕ). get_or t k 0) (along room n j) ∙ uses.rest (n + j) (omega arith) (let le = uses.within in omega arith)) in
     let all = sum-all t room n tree.size uses.within in
     omega arith)
   where
@@ -81,17 +81,17 @@ power_twice (suc n) more power is =
 pub room_some : (t : List ℕ) (room n position : ℕ) → Uses t room n → position < sum (leaves t room n) → 1 ≤ room
 room_some t zero n position uses lt =
     let none : n ≡ 0 = let le = uses.within in omega arith in
-    let all : sum (leaves t 0 n) ≡ 0 = sum-all t 0 n uses.tree.size uses.within ∙ ap (span t 0) none in
+    let all : sum (leaves t 0 n) ≡ 0 = sum-all t 0 n uses.tree.size uses.within ∙ ap (span_sum t 0) none in
     absurd (omega arith)
 room_some t (suc m) n position uses lt = omega arith
 
 -- what a way down has found, in the words of the numbers
-pub span-found : (t s xs : List ℕ) (room n place rest position : ℕ) → Uses t room n → s ≡ t → leaves t room n ≡ xs → place < room → rest < get_or s (room + place) 0 → span s room place + rest ≡ position
+pub span-found : (t s xs : List ℕ) (room n place rest position : ℕ) → Uses t room n → s ≡ t → leaves t room n ≡ xs → place < room → rest < get_or s (room + place) 0 → span_sum s room place + rest ≡ position
     → (sum (take place xs) + rest ≡ position) × (rest < get_or xs place 0)
 span-found t s xs room n place rest position uses s-is xs-is lt more before =
     let here : rest < get_or t (room + place) 0 = subst (λ (l : List ℕ). rest < get_or l (room + place) 0) s-is more in
     let used = leaf_used t room n place rest uses lt here in
-    let first : sum (take place xs) ≡ span t room place = ap (λ (l : List ℕ). sum (take place l)) (sym xs-is) ∙ sum-first t room n place uses.tree.size uses.within (omega arith) in
-    let same : span s room place ≡ span t room place = ap (λ (l : List ℕ). span l room place) s-is in
+    let first : sum (take place xs) ≡ span_sum t room place = ap (λ (l : List ℕ). sum (take place l)) (sym xs-is) ∙ sum-first t room n place uses.tree.size uses.within (omega arith) in
+    let same : span_sum s room place ≡ span_sum t room place = ap (λ (l : List ℕ). span_sum l room place) s-is in
     let at : get_or xs place 0 ≡ get_or t (room + place) 0 = ap (λ (l : List ℕ). get_or l place 0) (sym xs-is) ∙ leaf-at t room n place used in
     (omega arith, omega arith)

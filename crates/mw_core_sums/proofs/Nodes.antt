@@ -3,7 +3,7 @@ use Rattle.std.proofs.Common.{◌≡◌, ℕ, zero, suc, ◌+◌, ◌-◌, ◌*�
 use Rattle.std.proofs.Math.Nat.{mul-le-mul_left, pow-suc, one-le-pow}
 use Rattle.std.proofs.lemmas.Bool.{cases_lt}
 use Rattle.std.proofs.lemmas.Nat.{mul-le}
-use Rattle.mw_core_sums.specs.Trees.{span, IsSum, IsTree}
+use Rattle.mw_core_sums.specs.Trees.{span_sum, IsSum, IsTree}
 use Rattle.mw_core_sums.proofs.Spans.{span-add}
 
 -- a node is no more than all leaves may come to
@@ -35,7 +35,7 @@ node_small t room q few some lt sums small =
     split room j from = omega arith
 
 -- a node is the sum of the leaves below it
-pub node_span : (t : List ℕ) (room k i : ℕ) → ((q : ℕ) → 1 ≤ q → q < room → IsSum t q) → 1 ≤ i → i * 2 ^ k + 2 ^ k ≤ 2 * room → get_or t i 0 ≡ span t (i * 2 ^ k) (2 ^ k)
+pub node_span : (t : List ℕ) (room k i : ℕ) → ((q : ℕ) → 1 ≤ q → q < room → IsSum t q) → 1 ≤ i → i * 2 ^ k + 2 ^ k ≤ 2 * room → get_or t i 0 ≡ span_sum t (i * 2 ^ k) (2 ^ k)
 node_span t room zero i sums some fits = ap (λ (j : ℕ). get_or t j 0) (one i) ∙ front (get_or t (i * 1 + 0) 0)
   where
     one : (i : ℕ) → i ≡ i * 1 + 0
@@ -49,17 +49,17 @@ node_span t room (suc k) i sums some fits =
     let p-some : 1 ≤ p = one-le-pow k 2 (omega arith) in
     let up : (i + 1) * (p * 2) ≤ 2 * room = omega (arith, ap (λ (n : ℕ). i * n + n) p-is) in
     let low : (i + 1) * 1 ≤ (i + 1) * p = mul-le-mul_left (i + 1) p-some in
-    let left : get_or t (2 * i) 0 ≡ span t (2 * i * p) p = node_span t room k (2 * i) sums (omega arith) (omega arith) in
-    let right : get_or t (2 * i + 1) 0 ≡ span t ((2 * i + 1) * p) p = node_span t room k (2 * i + 1) sums (omega arith) (omega arith) in
-    let both : span t (2 * i * p) (p + p) ≡ span t (2 * i * p) p + span t (2 * i * p + p) p = span-add t (2 * i * p) p p in
-    let next : span t ((2 * i + 1) * p) p ≡ span t (2 * i * p + p) p = ap (λ (n : ℕ). span t n p) (along i p) in
+    let left : get_or t (2 * i) 0 ≡ span_sum t (2 * i * p) p = node_span t room k (2 * i) sums (omega arith) (omega arith) in
+    let right : get_or t (2 * i + 1) 0 ≡ span_sum t ((2 * i + 1) * p) p = node_span t room k (2 * i + 1) sums (omega arith) (omega arith) in
+    let both : span_sum t (2 * i * p) (p + p) ≡ span_sum t (2 * i * p) p + span_sum t (2 * i * p + p) p = span-add t (2 * i * p) p p in
+    let next : span_sum t ((2 * i + 1) * p) p ≡ span_sum t (2 * i * p + p) p = ap (λ (n : ℕ). span_sum t n p) (along i p) in
     sums i some (omega arith)
     ∙ ap (λ (n : ℕ). n + get_or t (2 * i + 1) 0) left
-    ∙ ap (λ (n : ℕ). span t (2 * i * p) p + n) (right ∙ next)
+    ∙ ap (λ (n : ℕ). span_sum t (2 * i * p) p + n) (right ∙ next)
     ∙ sym both
-    ∙ ap (λ (n : ℕ). span t n (p + p)) (grouped i p)
-    ∙ ap (λ (n : ℕ). span t (i * (p * 2)) n) (twice p)
-    ∙ ap (λ (n : ℕ). span t (i * n) n) (sym p-is)
+    ∙ ap (λ (n : ℕ). span_sum t n (p + p)) (grouped i p)
+    ∙ ap (λ (n : ℕ). span_sum t (i * (p * 2)) n) (twice p)
+    ∙ ap (λ (n : ℕ). span_sum t (i * n) n) (sym p-is)
   where
     along : (i p : ℕ) → (2 * i + 1) * p ≡ 2 * i * p + p
     along i p = omega arith
@@ -77,23 +77,23 @@ pub record Holds (t : List ℕ) (room node rest position : ℕ) : Type 0 where
   pub low : room ≤ node * 2 ^ height
   pub high : node * 2 ^ height + 2 ^ height ≤ 2 * room
   pub here : rest < get_or t node 0
-  pub before : span t room (node * 2 ^ height - room) + rest ≡ position
+  pub before : span_sum t room (node * 2 ^ height - room) + rest ≡ position
 
 -- one step down
 descend-down : (t : List ℕ) (room node rest position h : ℕ) → IsTree t room → node < room → 1 ≤ node → room ≤ node * 2 ^ suc h → node * 2 ^ suc h + 2 ^ suc h ≤ 2 * room → rest < get_or t node 0
-    → span t room (node * 2 ^ suc h - room) + rest ≡ position → (rest < get_or t (2 * node) 0 → Holds t room (2 * node) rest position) × (get_or t (2 * node) 0 ≤ rest → Holds t room (2 * node + 1) (rest - get_or t (2 * node) 0) position)
+    → span_sum t room (node * 2 ^ suc h - room) + rest ≡ position → (rest < get_or t (2 * node) 0 → Holds t room (2 * node) rest position) × (get_or t (2 * node) 0 ≤ rest → Holds t room (2 * node + 1) (rest - get_or t (2 * node) 0) position)
 descend-down t room node rest position h tree inner some low high here before =
     let p = 2 ^ h in
     let p-is : 2 ^ suc h ≡ p * 2 = pow-suc 2 h in
     let p-some : 1 ≤ p = one-le-pow h 2 (omega arith) in
     let n-is : node * 2 ^ suc h ≡ 2 * node * p = ap (λ (n : ℕ). node * n) p-is ∙ grouped node p in
     let place : node * 2 ^ suc h - room ≡ 2 * node * p - room = ap (λ (n : ℕ). n - room) n-is in
-    let start : span t room (node * 2 ^ suc h - room) ≡ span t room (2 * node * p - room) = ap (span t room) place in
-    let left : get_or t (2 * node) 0 ≡ span t (2 * node * p) p = node_span t room h (2 * node) tree.sums (omega arith) (omega arith) in
+    let start : span_sum t room (node * 2 ^ suc h - room) ≡ span_sum t room (2 * node * p - room) = ap (span_sum t room) place in
+    let left : get_or t (2 * node) 0 ≡ span_sum t (2 * node * p) p = node_span t room h (2 * node) tree.sums (omega arith) (omega arith) in
     let sum = tree.sums node some inner in
-    let more : span t room (2 * node * p - room + p) ≡ span t room (2 * node * p - room) + span t (room + (2 * node * p - room)) p = span-add t room (2 * node * p - room) p in
-    let joined : span t (room + (2 * node * p - room)) p ≡ span t (2 * node * p) p = ap (λ (n : ℕ). span t n p) (back room (2 * node * p) (omega arith)) in
-    let right : span t room ((2 * node + 1) * p - room) ≡ span t room (2 * node * p - room + p) = ap (span t room) (along node p room (omega arith)) in
+    let more : span_sum t room (2 * node * p - room + p) ≡ span_sum t room (2 * node * p - room) + span_sum t (room + (2 * node * p - room)) p = span-add t room (2 * node * p - room) p in
+    let joined : span_sum t (room + (2 * node * p - room)) p ≡ span_sum t (2 * node * p) p = ap (λ (n : ℕ). span_sum t n p) (back room (2 * node * p) (omega arith)) in
+    let right : span_sum t room ((2 * node + 1) * p - room) ≡ span_sum t room (2 * node * p - room + p) = ap (span_sum t room) (along node p room (omega arith)) in
     let odd : (2 * node + 1) * p ≡ 2 * node * p + p = share node p in (
       λ lt. record { height = h; some = omega arith; low = omega arith; high = omega arith; here = lt; before = omega arith },
       λ le. record { height = h; some = omega arith; low = omega arith; high = omega arith; here = omega arith; before = omega arith },
@@ -115,20 +115,20 @@ pub goes_down : (t : List ℕ) (room node rest position : ℕ) → IsTree t room
     → (rest < get_or t (2 * node) 0 → Holds t room (2 * node) rest position) × (get_or t (2 * node) 0 ≤ rest → Holds t room (2 * node + 1) (rest - get_or t (2 * node) 0) position)
 goes_down t room node rest position tree inner holds = go holds.height holds.low holds.high holds.before
   where
-    go : (h : ℕ) → room ≤ node * 2 ^ h → node * 2 ^ h + 2 ^ h ≤ 2 * room → span t room (node * 2 ^ h - room) + rest ≡ position
+    go : (h : ℕ) → room ≤ node * 2 ^ h → node * 2 ^ h + 2 ^ h ≤ 2 * room → span_sum t room (node * 2 ^ h - room) + rest ≡ position
         → (rest < get_or t (2 * node) 0 → Holds t room (2 * node) rest position) × (get_or t (2 * node) 0 ≤ rest → Holds t room (2 * node + 1) (rest - get_or t (2 * node) 0) position)
     go zero low high before = absurd (omega arith)
     go (suc h) low high before = descend-down t room node rest position h tree inner holds.some low high holds.here before
 
 -- at a leaf
-pub at_leaf : (t : List ℕ) (room node rest position : ℕ) → room ≤ node → Holds t room node rest position → (node < 2 * room) × (span t room (node - room) + rest ≡ position)
+pub at_leaf : (t : List ℕ) (room node rest position : ℕ) → room ≤ node → Holds t room node rest position → (node < 2 * room) × (span_sum t room (node - room) + rest ≡ position)
 at_leaf t room node rest position leaf holds = go holds.height holds.high holds.before
   where
     one : (n : ℕ) → n * 1 ≡ n
     one n = omega arith
 
-    go : (h : ℕ) → node * 2 ^ h + 2 ^ h ≤ 2 * room → span t room (node * 2 ^ h - room) + rest ≡ position → (node < 2 * room) × (span t room (node - room) + rest ≡ position)
-    go zero high before = (omega arith, ap (λ (n : ℕ). span t room (n - room) + rest) (sym (one node)) ∙ before)
+    go : (h : ℕ) → node * 2 ^ h + 2 ^ h ≤ 2 * room → span_sum t room (node * 2 ^ h - room) + rest ≡ position → (node < 2 * room) × (span_sum t room (node - room) + rest ≡ position)
+    go zero high before = (omega arith, ap (λ (n : ℕ). span_sum t room (n - room) + rest) (sym (one node)) ∙ before)
     go (suc h) high before =
         let p = 2 ^ h in
         let p-is : 2 ^ suc h ≡ p * 2 = pow-suc 2 h in

@@ -2,9 +2,9 @@
 use Rattle.std.specs.Prelude.{◌≡◌, ℕ, zero, suc, ◌+◌, ◌*◌, ◌<◌, ◌≤◌, ◌^◌, List, length, take, drop, slice_index}
 
 -- n values of a list from place a on, summed
-abbrev pub span : List ℕ → ℕ → ℕ → ℕ
-span t a zero = 0
-span t a (suc n) = span t a n + slice_index t (a + n)
+abbrev pub span_sum : List ℕ → ℕ → ℕ → ℕ
+span_sum t a zero = 0
+span_sum t a (suc n) = span_sum t a n + slice_index t (a + n)
 
 -- the node is the sum of the two below it
 abbrev pub IsSum : List ℕ → ℕ → Type 0

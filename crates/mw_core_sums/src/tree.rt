@@ -1,7 +1,7 @@
 //! A binary tree of sums in a slice: the root stands at 1, below node q stand 2q and 2q + 1, and the leaves stand last.
 
 ghost use Rattle.std.specs.Prelude.{◌≡◌, ◌≢◌, ℕ, ◌+◌, ◌*◌, ◌/◌, ◌<◌, ◌≤◌, ◌^◌, length, slice_index, IfOk, IfErr};
-ghost use Rattle.mw_core_sums.specs.Trees.{span, leaves, IsSum, IsPower, IsTree, Uses};
+ghost use Rattle.mw_core_sums.specs.Trees.{span_sum, leaves, IsSum, IsPower, IsTree, Uses};
 
 use mw_model::NoMemory;
 use std::alloc::Global;
@@ -85,7 +85,7 @@ pub(crate) fn descend(tree: &[u64], room: usize, position: u64) -> (usize, u64)
     requires inside { position < slice_index tree.now 1 }
     ensures place { result.0 < room }
     ensures here { result.1 < slice_index tree.now (room + result.0) }
-    ensures before { span tree.now room result.0 + result.1 ≡ position }
+    ensures before { span_sum tree.now room result.0 + result.1 ≡ position }
 {
     let mut node = 1;
     let mut rest = position;

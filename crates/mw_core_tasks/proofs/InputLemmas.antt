@@ -14,7 +14,7 @@ use Rattle.mw_model.specs.Plans.{images_of}
 use Rattle.mw_model.specs.Stands.{input_values}
 use Rattle.mw_core_laws.specs.mw_model_laws.MachineLaws.{IsSound, shape_of_value}
 use Rattle.mw_core_laws.specs.mw_core_progress.ProgressView.{ProgressView}
-use Rattle.mw_core_tasks.specs.SourceWindows.{IsInputAt}
+use Rattle.mw_core_tasks.specs.SourceWindows.{IsInputOfTicket}
 
 -- an entry of an element's shape has no image
 element-value : (v : Option Value) (s : Shape) → option_map shape_of_value v ≡ Some s → is_element s ≡ true → image_of v ≡ None
@@ -50,7 +50,7 @@ all-tickets : (P : ℕ → Type 0) (i : Inputs) (x : ℕ) → i.a ≡ Some x →
 all-tickets P i x first all = let Q : Option ℕ → Type 0 = λ a. AllByRecursion P (option_list a ++ option_list i.b ++ option_list i.c) in subst Q first all
 
 -- the command of a ticket that is there reads one image, its first input
-pub reads-image : (m : Machine) (t : ℕ) (u : ProgressView) → IsSound m → t < length m.table.names → (r : IsInputAt m.table t u) → ReadsImage m t u r.image
+pub reads-image : (m : Machine) (t : ℕ) (u : ProgressView) → IsSound m → t < length m.table.names → (r : IsInputOfTicket m.table t u) → ReadsImage m t u r.image
 reads-image m t u s within r =
     let inputs = (submission_at m.table.submissions t).inputs in
     let i = r.image in

@@ -1,5 +1,5 @@
 -- The plan of an accepted command, off what is looked up of its inputs.
-use Rattle.std.proofs.Common.{◌≡◌, ℕ, ◌-◌, ◌<◌, true, false, get_or, List, length, Option, Some, None, Result, Ok, Err, refl, sym, ap, ◌∙◌, subst}
+use Rattle.std.proofs.Common.{◌≡◌, ℕ, ◌-◌, ◌<◌, true, false, get_or, List, length, Option, Some, None, Result, Ok, Err, IfOk, sym, ap, ◌∙◌, subst}
 use Rattle.std.specs.List.{AllByRecursion}
 use Rattle.mw_model.specs.declared.names.Name.{Name}
 use Rattle.mw_model.specs.declared.operations.Op.{Op}
@@ -14,14 +14,11 @@ use Rattle.mw_model.specs.Machine.{inputs_from, run_submission}
 use Rattle.mw_model.specs.Plans.{Plan, is_sum}
 use Rattle.mw_model.specs.Tasks.{Progress, nothing_planned}
 use Rattle.mw_grid.specs.Grids.{Tiling, tiling}
-use Rattle.mw_core_laws.specs.mw_plan.declared.faults.PlanFault.{PlanFault}
-use Rattle.mw_core_laws.specs.mw_plan.declared.faults.PlanFault.TheVariants as fault
 use Rattle.mw_core_laws.specs.mw_plan.declared.inputs.Input.{Input}
 use Rattle.mw_core_laws.specs.mw_plan.declared.inputs.Input.TheVariants as input
-use Rattle.mw_core_laws.specs.mw_plan.Asked.{IsRefusedBy, fault_in, shape_made}
+use Rattle.mw_core_laws.specs.mw_plan.Asked.{fault_in, shape_made}
 use Rattle.mw_core_laws.specs.mw_plan.PlansOf.{IsPlanOf}
-use Rattle.mw_core_laws.specs.mw_plan.Tables.{AreInputsOf, AreValuesAt, IsInputOf}
-use Rattle.mw_core_laws.proofs.mw_plan.Accepted.{accepted_faultless}
+use Rattle.mw_core_laws.specs.mw_plan.Tables.{AreInputsOf, IsInputAt, IsInputOf}
 use Rattle.mw_core_laws.specs.mw_core_planes.Levels.{Level}
 use Rattle.mw_core_laws.specs.mw_core_progress.ProgressView.{IsWhole, IsWorkable, ProgressView, fresh}
 use Rattle.mw_core_laws.specs.Limits.{ShapesFit}
@@ -29,18 +26,6 @@ use Rattle.mw_core_tasks.specs.SourceWindows.{IsInput}
 use Rattle.mw_core_tasks.specs.Planning.{IsAllowed, IsLookedUp, IsPlannedBy, level_of_shape}
 use Rattle.mw_core_tasks.proofs.PlanningLemmas.{IsElementAt, accepted-takes, each-ticket, first-there, fits-looked-up, image-told, shape-made-of}
 use Rattle.mw_core_tasks.proofs.WorkableLemmas.{workable}
-
--- ---- refusals
-
--- where there is a plan, nothing is wrong
-pub faultless-plan : {A : Type 0} (found : Option PlanFault) (r : Result A PlanFault) (x : A) → IsRefusedBy found r → r ≡ Ok x → found ≡ None
-faultless-plan None r x refused is = refl
-faultless-plan (Some f) r x refused is = absurd cc
-
--- where nothing is wrong and there is no plan, memory was refused
-pub only-memory : {A : Type 0} (found : Option PlanFault) (r : Result A PlanFault) (e : PlanFault) → IsRefusedBy found r → r ≡ Err e → found ≡ None → e ≡ fault.NoMemory
-only-memory {A} None r e refused is none = let P : Result A PlanFault → Type 0 = λ x. IsRefusedBy None x in subst P is refused
-only-memory (Some f) r e refused is none = absurd cc
 
 -- ---- what is looked up
 
@@ -61,9 +46,28 @@ are-inputs w kept n o e t s a b c l =
     let P : Submission → Type 0 = λ d. AreInputsOf w kept d.inputs a b c in
     subst P l.submission (record { first = l.first.told; second = l.second.told; third = l.third.told })
 
--- where each entry has a value, nothing is wrong
-pub no-fault : (w : Table) (kept values : List (Option Value)) (n : Name) (o : Op) (e : Submission) (t : ℕ) (s : Shape) (a b c : Input) → LooksUp w kept n o e t s a b c → AreValuesAt w kept values → fault_in o a b c ≡ None
-no-fault w kept values n o e t s a b c l are = accepted_faultless w kept values n o a b c l.accepted are (are-inputs w kept n o e t s a b c l)
+-- an accepted command without a fault, whose first input is told to be an image of this shape
+pub looks-up : (w : Table) (kept : List (Option Value)) (n : Name) (o : Op) (e : Submission) (s : Shape) (a b c : Input) → refusal w kept (call.Run n o) ≡ None → e ≡ run_submission w o → AllByRecursion (λ i. i < length w.names) (tickets e.inputs)
+    → ShapesFit w → IsLookedUp w kept e.inputs.a a → IsLookedUp w kept e.inputs.b b → IsLookedUp w kept e.inputs.c c → a ≡ input.Image s → (t : ℕ) × LooksUp w kept n o e t s a b c
+looks-up w kept n o e s a b c accepted submission below fits first second third is =
+    let takes = accepted-takes w kept n o accepted in
+    let ticket : e.inputs.a ≡ Some takes.image = ap (λ (d : Submission). d.inputs.a) submission ∙ takes.first in
+    let P : Option ℕ → Type 0 = λ x. IsInputOf w kept x a in
+    let Q : Input → Type 0 = λ i. IsInputAt w kept takes.image i in
+    let told : IsInputAt w kept takes.image (input.Image s) = subst Q is (subst P ticket first.told) in (
+      takes.image,
+      record {
+        accepted = accepted;
+        submission = submission;
+        below = below;
+        fits = fits;
+        ticket = ticket;
+        shape = told.0;
+        first = first;
+        second = second;
+        third = third;
+      },
+    )
 
 image-first : (w : Table) (kept : List (Option Value)) (n : Name) (o : Op) (e : Submission) (t : ℕ) (s : Shape) (a b c : Input) → LooksUp w kept n o e t s a b c → fault_in o a b c ≡ None → a ≡ input.Image s
 image-first w kept n o e t s a b c l none =
@@ -130,3 +134,13 @@ planned-by w kept n o e t kind width height maxval side a b c plan u l none plan
       tiles = ap (λ (g : Tiling). g.side) made.tiling;
       whole = made.whole;
     }
+
+-- so it is with the work, where memory was there for it
+pub planned-made : {E : Type 0} (r : Result ProgressView E) (w : Table) (kept : List (Option Value)) (n : Name) (o : Op) (e : Submission) (t : ℕ) (kind : Kind) (width height maxval side : ℕ) (a b c : Input) (plan : Plan) (g : Tiling)
+    → LooksUp w kept n o e t (shape.Image kind width height maxval) a b c → fault_in o a b c ≡ None → IsPlanOf o a b c plan → g ≡ tiling width height side
+    → IfOk r (λ u. u.progress ≡ fresh plan u.input g) → IfOk r (λ u. u.input ≡ record { kind = kind; maxval = maxval }) → IfOk r (λ u. u.tiling ≡ g) → IfOk r IsWhole → IfOk r (IsPlannedBy w kept o e side)
+planned-made (Err x) w kept n o e t kind width height maxval side a b c plan g l none planned is progress input tiled whole = tt
+planned-made (Ok u) w kept n o e t kind width height maxval side a b c plan g l none planned is progress input tiled whole =
+    let Fresh : Tiling → Type 0 = λ x. u.progress ≡ fresh plan u.input x in
+    planned-by w kept n o e t kind width height maxval side a b c plan u l none planned
+    (record { input = input; tiling = tiled ∙ is; progress = subst Fresh (sym tiled) progress; whole = whole })

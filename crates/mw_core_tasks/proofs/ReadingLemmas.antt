@@ -3,10 +3,10 @@ use Rattle.std.proofs.Common.{◌≡◌, ℕ, ◌<◌, ◌≤◌, List, [], ◌�
 use Rattle.std.specs.Prelude.{IfOk, IfSome, IsSome, ◌↔◌, Result, Ok, Err, option_map}
 use Rattle.std.specs.List.{AllByRecursion, Contains}
 use Rattle.mw_model.proofs.mw_facts.Finds.{contains-cons}
-use Rattle.mw_model.specs.declared.places.Reach.{Reach}
-use Rattle.mw_model.specs.declared.places.Rect.{Rect}
+use Rattle.mw_model.specs.declared.offsets.Reach.{Reach}
+use Rattle.mw_model.specs.declared.offsets.Rect.{Rect}
 use Rattle.mw_model.specs.Pictures.{IsPicture, Picture}
-use Rattle.mw_model.specs.Places.{grown, IsWithin}
+use Rattle.mw_model.specs.Rectangles.{grown, IsWithin}
 use Rattle.mw_model.specs.Elements.{reach_of}
 use Rattle.mw_model.specs.PlanSteps.{PlanStep, looks_at}
 use Rattle.mw_model.specs.Plans.{Planned, Source, FromInput, FromStep}

@@ -5,13 +5,13 @@ use Rattle.std.specs.List.{AllByRecursion}
 use Rattle.std.proofs.lemmas.Bool.{and_parts}
 use Rattle.std.proofs.lemmas.Option.{none-some}
 use Rattle.mw_model.specs.declared.calls.Outcome.TheVariants as outcome
-use Rattle.mw_model.specs.declared.places.Reach.{Reach}
-use Rattle.mw_model.specs.declared.places.Rect.{Rect}
+use Rattle.mw_model.specs.declared.offsets.Reach.{Reach}
+use Rattle.mw_model.specs.declared.offsets.Rect.{Rect}
 use Rattle.mw_model.specs.declared.tasks.TaskId.{TaskId}
 use Rattle.mw_model.specs.Elements.{reach_of}
 use Rattle.mw_model.specs.Machine.{Machine}
 use Rattle.mw_model.specs.Pictures.{Picture, IsPicture}
-use Rattle.mw_model.specs.Places.{IsWithin, grown}
+use Rattle.mw_model.specs.Rectangles.{IsWithin, grown}
 use Rattle.mw_model.specs.PlanSteps.{PlanStep, kind_of_step, looks_at, maxval_of_step}
 use Rattle.mw_model.specs.Plans.{Plan, Planned, Source, FromInput, FromStep, IsSourceAt, images_of, planes}
 use Rattle.mw_model.specs.Refusals.{Table, outcome_at, submission_at}
@@ -29,7 +29,7 @@ use Rattle.mw_core_laws.proofs.mw_step_task.Cut.{window_bounded_cut}
 use Rattle.mw_core_laws.specs.mw_plan.PlansOf.{planes_read}
 use Rattle.mw_core_laws.proofs.mw_plan.Planes.{plane_is}
 use Rattle.mw_core_laws.specs.mw_core_planes.Levels.{Level, level_of, level_of_source, level_of_step, levels, no_level, level_of_plane}
-use Rattle.mw_core_laws.specs.mw_core_progress.ProgressView.{Fits, IsWhole, ProgressView, number_of, plane_at}
+use Rattle.mw_core_laws.specs.mw_core_progress.ProgressView.{IsWhole, ProgressView, ResultFits, number_of, plane_at}
 use Rattle.mw_core_laws.specs.Works.{true_task}
 use Rattle.mw_core_laws.proofs.Going.{true-under}
 use Rattle.mw_core_laws.proofs.Leveled.{get_or-map-level_of, level_of-plane_of, levels-planes}
@@ -40,7 +40,7 @@ use Rattle.mw_core_laws.specs.TaskEvents.{IsResult}
 use Rattle.mw_core_laws.proofs.StandsLemmas.{stands-sound}
 use Rattle.mw_core_laws.proofs.TaskLemmas.{work-of}
 use Rattle.mw_core_tasks.specs.Planning.{IsPlannedAt, levels_read}
-use Rattle.mw_core_tasks.specs.Results.{AreShown, HasLevel, IsFitOf, IsFoundOf, IsOfRunning, IsResultOf, IsShown, level_of_window, result_number}
+use Rattle.mw_core_tasks.specs.Results.{AreShown, HasLevel, IsFitOf, IsFoundOf, IsOfRunning, IsResultOf, WindowIsShown, level_of_window, result_number}
 use Rattle.mw_core_tasks.specs.SourceWindows.{AreSources, CanReadAll, IsOfWork, IsSource, task_on}
 use Rattle.mw_core_tasks.proofs.AllowedLemmas.{planes-levels}
 use Rattle.mw_core_tasks.proofs.PlannedAtLemmas.{level-is, planned-at}
@@ -50,7 +50,7 @@ use Rattle.mw_core_tasks.proofs.SourceTrueLemmas.{ReadsKept, reads-kept, sources
 -- ---- the window of a source
 
 pub input-shown : (image : Option Picture) (u : ProgressView) (place : Rect) (k : ℕ) (w : SourceWindow) → IfSome image (HasFrame u.tiling.width u.tiling.height) → HasLevel image u → IfSome image IsPicture
-    → IsWithin place u.tiling.width u.tiling.height → option_map (window_of place) image ≡ Some w → IsShown image u place (FromInput k) w
+    → IsWithin place u.tiling.width u.tiling.height → option_map (window_of place) image ≡ Some w → WindowIsShown image u place (FromInput k) w
 input-shown None u place k w frame level picture within is = absurd (none-some _ is)
 input-shown (Some f) u place k w frame level picture within is =
     let same : window_of place f ≡ w = cc in
@@ -63,7 +63,7 @@ input-shown (Some f) u place k w frame level picture within is =
     }
 
 pub step-shown : (image : Option Picture) (u : ProgressView) (place : Rect) (k : ℕ) (w : SourceWindow) → IsWhole u → k < length u.progress.plan → ((f : Picture) → IsPlaneOf (plane_at u k) f → w ≡ window_of place f)
-    → (w.kind ≡ (plane_at u k).kind) × (w.maxval ≡ (plane_at u k).maxval) → IsBounded w → IsShown image u place (FromStep k) w
+    → (w.kind ≡ (plane_at u k).kind) × (w.maxval ≡ (plane_at u k).maxval) → IsBounded w → WindowIsShown image u place (FromStep k) w
 step-shown image u place k w whole within is level bounded =
     let same : level_of_window w ≡ level_of_plane (plane_at u k) = λ i. record { kind = level.0 i; maxval = level.1 i } in
     record {
@@ -283,7 +283,7 @@ level-made d =
     sym (ap (λ (l : Level). level_of_step d.step (l ∷ [])) first)
 
 -- what was made of a result fits its step and its tile
-pub result-fits : (u : ProgressView) (d : WindowTask) (x : TileResult) → IsWhole u → IsFitOf u d → FitsStep d.step d.rect d.windows → IsMade d x → Fits u d.task.step d.task.tile x
+pub result-fits : (u : ProgressView) (d : WindowTask) (x : TileResult) → IsWhole u → IsFitOf u d → FitsStep d.step d.rect d.windows → IsMade d x → ResultFits u d.task.step d.task.tile x
 result-fits u d x whole r fits is =
     let k = d.task.step in
     let plan = u.progress.plan in

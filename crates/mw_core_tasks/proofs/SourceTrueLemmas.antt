@@ -15,7 +15,7 @@ use Rattle.mw_core_laws.specs.mw_step_task.Sources.{HasFrame}
 use Rattle.mw_core_laws.specs.mw_tile_planes.Tiles.{IsPlaneOf}
 use Rattle.mw_core_laws.specs.mw_core_progress.ProgressView.{ProgressView, IsWhole, IsPlaneSource, plane_at}
 use Rattle.mw_core_laws.proofs.KeptInputs.{kept_inputs}
-use Rattle.mw_core_tasks.specs.SourceWindows.{IsInputAt, AreSources}
+use Rattle.mw_core_tasks.specs.SourceWindows.{IsInputOfTicket, AreSources}
 use Rattle.mw_core_tasks.proofs.InputLemmas.{reads-image}
 use Rattle.mw_core_laws.proofs.StandsLemmas.{stands-sound}
 use Rattle.mw_core_laws.proofs.TaskLemmas.{kept-images}
@@ -25,7 +25,7 @@ heads f g x xs e = cc
 
 -- the image that a ticket reads is kept, once its inputs are there
 pub kept-first : (c : CoreView) (m : Machine) (t : ℕ) (u : ProgressView) → StandsFor c m → t < length c.table.names → outcome_at c.table.outcomes t ≡ outcome.Pending → inputs_there m.table t ≡ true
-    → (r : IsInputAt c.table t u) → value_at c.kept r.image ≡ value_at (values m) r.image
+    → (r : IsInputOfTicket c.table t u) → value_at c.kept r.image ≡ value_at (values m) r.image
 kept-first c m t u s within pending there r =
     let inputs = (submission_at c.table.submissions t).inputs in
     let more = option_list inputs.b ++ option_list inputs.c in
@@ -57,10 +57,10 @@ pub record ReadsKept (c : CoreView) (m : Machine) (t : ℕ) (u : ProgressView) (
   pub frame : HasFrame u.tiling.width u.tiling.height picture
 
 pub reads-kept : (c : CoreView) (m : Machine) (t : ℕ) (u : ProgressView) → StandsFor c m → t < length c.table.names → outcome_at c.table.outcomes t ≡ outcome.Pending → inputs_there m.table t ≡ true
-    → (r : IsInputAt c.table t u) → ReadsKept c m t u r.image
+    → (r : IsInputOfTicket c.table t u) → ReadsKept c m t u r.image
 reads-kept c m t u s within pending there r =
     let Named : Table → Type 0 = λ w. t < length w.names in
-    let Reads : Table → Type 0 = λ w. (q : IsInputAt w t u) × (q.image ≡ r.image) in
+    let Reads : Table → Type 0 = λ w. (q : IsInputOfTicket w t u) × (q.image ≡ r.image) in
     let told = subst Reads s.table (r, refl) in
     let found = reads-image m t u (stands-sound c m s) (subst Named s.table within) told.0 in
     let value : value_at (values m) r.image ≡ Some (ImageValue found.picture) = ap (value_at (values m)) (sym told.1) ∙ found.value in

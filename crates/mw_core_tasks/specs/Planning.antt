@@ -19,10 +19,6 @@ use Rattle.mw_core_laws.specs.mw_plan.PlansOf.{IsPlanOf}
 use Rattle.mw_core_laws.specs.mw_plan.Tables.{AreInputsOf, IsInputOf}
 use Rattle.mw_core_laws.specs.mw_plan.declared.inputs.Input.{Input}
 use Rattle.mw_core_laws.specs.mw_plan.declared.inputs.Input.TheVariants as input
-use Rattle.mw_core_laws.specs.mw_plan.declared.faults.PlanFault.{PlanFault}
-use Rattle.mw_core_laws.specs.mw_plan.declared.faults.PlanFault.TheVariants as fault
-use Rattle.mw_core_tasks.specs.declared.planning.Unplanned.{Unplanned}
-use Rattle.mw_core_tasks.specs.declared.planning.Unplanned.TheVariants as unplanned
 use Rattle.mw_core_tasks.specs.SourceWindows.{IsInput}
 
 -- the level of an image of this shape
@@ -68,11 +64,6 @@ abbrev pub IsPlannedAt : Table → ℕ → ProgressView → Type 0
 IsPlannedAt w t u = IsPlannedOn w (submission_at w.submissions t) u
 
 -- ---- commands that are accepted
-
--- why there is no work, where there is no plan for this reason
-abbrev pub unplanned_of : PlanFault → Unplanned
-unplanned_of fault.NoMemory = unplanned.NoMemory
-unplanned_of f = unplanned.Fault f
 
 -- The input tells what the table and what is kept tell of the ticket, and nothing stands where there is no ticket.
 pub record IsLookedUp (w : Table) (kept : List (Option Value)) (t : Option ℕ) (i : Input) : Type 0 where

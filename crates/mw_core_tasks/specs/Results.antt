@@ -1,7 +1,7 @@
 -- When a result is that of a running task of the work.
 use Rattle.std.specs.Prelude.{ℕ, ◌≡◌, ◌<◌, true, List, [], ◌∷◌, length, map, Option, Some, IfSome, slice_index_or}
 use Rattle.std.specs.List.{AllByRecursion}
-use Rattle.mw_model.specs.declared.places.Rect.{Rect}
+use Rattle.mw_model.specs.declared.offsets.Rect.{Rect}
 use Rattle.mw_model.specs.Pictures.{Picture}
 use Rattle.mw_model.specs.Plans.{Source}
 use Rattle.mw_model.specs.Tasks.{is_running, planned_of, tile_of_task}
@@ -22,7 +22,7 @@ abbrev pub result_number : ProgressView → WindowTask → ℕ
 result_number u d = number_of u.progress d.task.step d.task.tile
 
 -- The window is that of the source, if it may be that of any; it is of the level that is read there, and has no sample over its maxval.
-pub record IsShown (image : Option Picture) (u : ProgressView) (place : Rect) (s : Source) (w : SourceWindow) : Type 0 where
+pub record WindowIsShown (image : Option Picture) (u : ProgressView) (place : Rect) (s : Source) (w : SourceWindow) : Type 0 where
   pub window : IsWindowOf image u place s (Some w)
   pub level : level_of_window w ≡ level_of_source u.input (levels u.progress.plan u.input) s
   pub bounded : IsBounded w
@@ -32,7 +32,7 @@ abbrev pub AreShown : Option Picture → ProgressView → Rect → List Source �
 AreShown image u place [] [] = Unit {0}
 AreShown image u place [] (w ∷ ws) = ⊥
 AreShown image u place (s ∷ ss) [] = ⊥
-AreShown image u place (s ∷ ss) (w ∷ ws) = IsShown image u place s w × AreShown image u place ss ws
+AreShown image u place (s ∷ ss) (w ∷ ws) = WindowIsShown image u place s w × AreShown image u place ss ws
 
 -- the image that is kept, if one is, is of the level that the work reads
 abbrev pub HasLevel : Option Picture → ProgressView → Type 0

@@ -1,6 +1,6 @@
 -- The windows that a task reads, off what is kept of its sources.
 use Rattle.std.specs.Prelude.{ℕ, ◌≡◌, ◌<◌, true, false, List, [], ◌∷◌, length, map, Option, Some, None, slice_index_or}
-use Rattle.mw_model.specs.declared.places.Rect.{Rect}
+use Rattle.mw_model.specs.declared.offsets.Rect.{Rect}
 use Rattle.mw_model.specs.declared.submissions.Submission.{Submission}
 use Rattle.mw_model.specs.declared.shapes.Shape.TheVariants as shape
 use Rattle.std.specs.List.{AllByRecursion}
@@ -24,8 +24,8 @@ pub record IsInput (w : Table) (e : Submission) (u : ProgressView) : Type 0 wher
   pub third : AllByRecursion (λ i. is_element (shape_at w.submissions i) ≡ true) (option_list e.inputs.c)
 
 -- the same of the work under a ticket
-abbrev pub IsInputAt : Table → ℕ → ProgressView → Type 0
-IsInputAt w t u = IsInput w (submission_at w.submissions t) u
+abbrev pub IsInputOfTicket : Table → ℕ → ProgressView → Type 0
+IsInputOfTicket w t u = IsInput w (submission_at w.submissions t) u
 
 -- the image may be the whole plane of the source: the one that is kept of the input, or one of those of which the tiles of the step are a part
 abbrev pub IsSource : Option Picture → ProgressView → Source → Picture → Type 0

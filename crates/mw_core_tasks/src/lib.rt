@@ -8,11 +8,11 @@ mod results;
 mod taking;
 
 pub use mw_core_laws::{
-    Entry, Fetched, FetchedValue, PlanProgress, Store, StoredValue, Waiters, WholePlane,
-    is_pending, reserve_row,
+    Entry, Fetched, FetchedValue, PlanProgress, ResolvedRun, Store, StoredValue, Waiters,
+    WholePlane, reserve_row,
 };
 pub use mw_model::NoMemory;
-pub use planning::{Unplanned, planned};
+pub use planning::planned;
 pub use results::{is_fit, is_result};
 pub use taking::begin;
 

@@ -19,24 +19,24 @@ pub(crate) fn task(
     alloc: Global,
     store: &Store,
     image: u32,
-    work: &PlanProgress,
+    progress: &PlanProgress,
     id: TaskId,
 ) -> Result<Option<Work>, NoMemory>
     requires image { image < length store.now.table.names }
-    requires step { id.step < length work.now.progress.plan }
-    requires tile { id.tile < tile_count work.now.tiling }
-    requires runs { IsReadyOrRuns work.now.progress (number_of work.now.progress id.step id.tile) }
-    ensures { IfOk result (IsTaskOrNone (image_of (value_at store.now.kept image)) id.ticket work.now (number_of work.now.progress id.step id.tile)) }
+    requires step { id.step < length progress.now.progress.plan }
+    requires tile { id.tile < tile_count progress.now.tiling }
+    requires runs { IsReadyOrRuns progress.now.progress (number_of progress.now.progress id.step id.tile) }
+    ensures { IfOk result (IsTaskOrNone (image_of (value_at store.now.kept image)) id.ticket progress.now (number_of progress.now.progress id.step id.tile)) }
 {
     // Its tiles are placed, as a fact of the work.
     mw_core_laws::true_tasks();
-    let _whole = work.remaining();
-    let planned = work.step(id.step);
-    let grid = work.grid();
+    let _whole = progress.remaining();
+    let planned = progress.step(id.step);
+    let grid = progress.grid();
     let rect = grid.rect(id.tile);
     let place = grid.window(id.tile, planned.step.reach());
     let reading = Reading { image, place };
-    let Some(windows) = windows(alloc, store, work, reading, planned.sources)? else {
+    let Some(windows) = windows(alloc, store, progress, reading, planned.sources)? else {
         return Ok(None);
     };
     Ok(Work::new(id, rect, planned.step.share()?, windows))
@@ -48,24 +48,24 @@ pub fn begin(
     store: &Store,
     image: u32,
     t: u32,
-    work: &mut PlanProgress,
+    progress: &mut PlanProgress,
     place: u32,
 ) -> Result<Option<Work>, NoMemory>
     requires image { image < length store.now.table.names }
-    requires place { place < ready_tasks work.old.progress }
-    ensures taken { IfOk result (Takes (image_of (value_at store.now.kept image)) t work.old (slice_index work.old.order place) work.new) }
-    ensures same { OnErr result (work.new ≡ work.old) }
+    requires place { place < ready_tasks progress.old.progress }
+    ensures taken { IfOk result (Takes (image_of (value_at store.now.kept image)) t progress.old (slice_index progress.old.order place) progress.new) }
+    ensures same { OnErr result (progress.new ≡ progress.old) }
 {
-    let _whole = work.remaining();
-    let (step, tile) = work.task_at(place);
+    let _whole = progress.remaining();
+    let (step, tile) = progress.task_at(place);
     let id = TaskId {
         ticket: t,
         step,
         tile,
     };
-    let Some(task) = task(alloc, store, image, work, id)? else {
+    let Some(task) = task(alloc, store, image, progress, id)? else {
         return Ok(None);
     };
-    work.start(alloc, place)?;
+    progress.start(alloc, place)?;
     Ok(Some(task))
 }

@@ -9,7 +9,7 @@ use Rattle.mw_model.specs.declared.memory.NoMemory.{NoMemory}
 use Rattle.mw_core_waves.specs.declared.shared.MadeTile.{MadeTile}
 use Rattle.mw_core_waves.specs.declared.job.WaveTask.{WaveTask}
 use Rattle.mw_core_waves.specs.declared.job.WaveTask.TheVariants as job
-use Rattle.mw_core_waves.specs.Jobs.{IsAnswerTo, IsBoundedJob, IsOf, HasTask, IsAnswered, IsKept, IsMadeFor, IsMadeAt, AreMade}
+use Rattle.mw_core_waves.specs.Jobs.{IsAnswerTo, IsBoundedJob, IsOf, HasTask, IsAnswered, IsKept, IsMadeFor, IsMadeAt, HandIsMade}
 
 -- from a fact at each index
 pub zip-each : {X : Type 0} (R : X → X → Type 0) (xs ys : List X) → length ys ≡ length xs → ((i : ℕ) (d : X) → i < length xs → R (slice_index_or xs i d) (slice_index_or ys i d)) → AllZip R xs ys
@@ -165,7 +165,7 @@ pub all-made-later : (xs ys : List WaveTask) (hand : List MadeTile) → AllZip I
 all-made-later xs ys [] h all = tt
 all-made-later xs ys (m ∷ hand) h all = (made-later xs ys m h all.0, all-made-later xs ys hand h all.1)
 
-pub all-hands-later : {A : Type 0} (xs ys : List WaveTask) (hands : List (Vec MadeTile A)) → AllZip IsKept xs ys → AllByRecursion (AreMade xs) hands → AllByRecursion (AreMade ys) hands
+pub all-hands-later : {A : Type 0} (xs ys : List WaveTask) (hands : List (Vec MadeTile A)) → AllZip IsKept xs ys → AllByRecursion (HandIsMade xs) hands → AllByRecursion (HandIsMade ys) hands
 all-hands-later xs ys [] h all = tt
 all-hands-later xs ys (v ∷ hands) h all = (all-made-later xs ys v.items h all.0, all-hands-later xs ys hands h all.1)
 

@@ -25,7 +25,7 @@ use Rattle.mw_core.specs.mw_core_laws.Events.{WorkStays}
 use Rattle.mw_core.specs.mw_core_laws.TaskEvents.{Kills, BeginsTask, IsResult, IsUnderway, Settles, Places, IsSettled}
 use Rattle.mw_core.proofs.mw_core_laws.CountLemmas.{sum-at}
 use Rattle.mw_core.proofs.mw_core_laws.TaskLemmas.{has-place, same-number, same-plan}
-use Rattle.mw_core.specs.TaskAnswers.{Starts, Finishes, IsOwn, Refuses}
+use Rattle.mw_core.specs.TaskAnswers.{Starts, AnswersFinish, IsOwn, AnswersRefusal}
 use Rattle.mw_core.specs.declared.answers.Started.{Started}
 use Rattle.mw_core.specs.declared.answers.Started.TheVariants as started
 use Rattle.mw_core.specs.declared.answers.Finish.{Finish}
@@ -383,7 +383,7 @@ pub handed-own : (m : Machine) (old c : CoreView) (d : WindowTask) (jobs : List 
 handed-own m old c d jobs n h = true-own c h.state d h.tasks.0
 
 -- a result is handed back
-pub finish-hand : (m : Machine) (old c new : CoreView) (d : WindowTask) (jobs : List WaveTask) (n : ℕ) (f : Finish) → n ≤ 1 → (h : Underway m old c (job.Ran (Ok d) ∷ jobs) n) → Finishes c h.state d f new → Underway m old new jobs n
+pub finish-hand : (m : Machine) (old c new : CoreView) (d : WindowTask) (jobs : List WaveTask) (n : ℕ) (f : Finish) → n ≤ 1 → (h : Underway m old c (job.Ran (Ok d) ∷ jobs) n) → AnswersFinish c h.state d f new → Underway m old new jobs n
 finish-hand m old c new d jobs n finish.Placed small h e = elim (cases_lt d.task.ticket (length c.table.names)) [
   | inl here ↦ hand-on m old c new (job.Ran (Ok d)) jobs n d.task small h (places-ended c new h.state d h.stands here e) (λ w is. ap (λ (v : WindowTask). v.task) (sym is))
   | inr past ↦ places-past m old c new d jobs n h past e
@@ -400,7 +400,7 @@ finish-hand m old c new d jobs n finish.Stranger small h e =
     subst P (sym e.2) (hand-none m old c (job.Ran (Ok d)) jobs n h (λ t k p r is. e.1 (running-result c h.state d t k p r is)))
 
 -- a refusal is handed back
-pub refuse-hand : (m : Machine) (old c new : CoreView) (r : TaskRefused) (jobs : List WaveTask) (n : ℕ) (a : Refusal) → n ≤ 1 → (h : Underway m old c (job.Ran (Err r) ∷ jobs) n) → Refuses c h.state r.task a new → Underway m old new jobs n
+pub refuse-hand : (m : Machine) (old c new : CoreView) (r : TaskRefused) (jobs : List WaveTask) (n : ℕ) (a : Refusal) → n ≤ 1 → (h : Underway m old c (job.Ran (Err r) ∷ jobs) n) → AnswersRefusal c h.state r.task a new → Underway m old new jobs n
 refuse-hand m old c new r jobs n (refusal.Killed t) small h e =
     hand-on m old c new (job.Ran (Err r)) jobs n r.task small h (kills-ended c new h.state t r.task h.stands (sym e.0) e.2) (λ w is. sym is)
 refuse-hand m old c new r jobs n refusal.Late small h e =

@@ -48,8 +48,8 @@ abbrev pub IsMadeAt : List WaveTask → MadeTile → Type 0
 IsMadeAt jobs made = IsMadeFor (slice_index_or jobs made.place job.Nothing) made.tile
 
 -- so is all that one worker made
-abbrev pub AreMade : {A : Type 0} → List WaveTask → Vec MadeTile A → Type 0
-AreMade jobs hand = AllByRecursion (IsMadeAt jobs) hand.items
+abbrev pub HandIsMade : {A : Type 0} → List WaveTask → Vec MadeTile A → Type 0
+HandIsMade jobs hand = AllByRecursion (IsMadeAt jobs) hand.items
 
 -- no sample of the windows in this place is over the maxval of its source
 abbrev pub IsBoundedJob : WaveTask → Type 0

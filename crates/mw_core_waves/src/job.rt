@@ -3,7 +3,7 @@
 ghost use Rattle.std.specs.Prelude.{IfOk};
 ghost use Rattle.std.specs.List.{AllByRecursion, AllZip};
 ghost use Rattle.mw_step.specs.mw_step_task.Products.{IsMade};
-ghost use Rattle.mw_core_waves.specs.Jobs.{AreMade, IsAnswered, IsAnswerTo};
+ghost use Rattle.mw_core_waves.specs.Jobs.{HandIsMade, IsAnswered, IsAnswerTo};
 
 use crate::Crew;
 use crate::shared::{MadeTile, put_all, put_hand};
@@ -80,8 +80,8 @@ fn answer_all<T: Threads + Sync>(
     mine: Vec<MadeTile>,
     jobs: &mut [WaveTask],
 )
-    requires theirs { IfOk theirs (λ hands. AllByRecursion (AreMade jobs.old) hands.items) }
-    requires mine { AreMade jobs.old mine }
+    requires theirs { IfOk theirs (λ hands. AllByRecursion (HandIsMade jobs.old) hands.items) }
+    requires mine { HandIsMade jobs.old mine }
     ensures { AllZip IsAnswered jobs.old jobs.new }
 {
     put_all(theirs, jobs);
@@ -96,8 +96,8 @@ pub(crate) fn answered<T: Threads + Sync>(
     mine: Vec<MadeTile>,
     mut jobs: Vec<WaveTask>,
 ) -> Vec<WaveTask>
-    requires theirs { IfOk theirs (λ hands. AllByRecursion (AreMade jobs.items) hands.items) }
-    requires mine { AreMade jobs.items mine }
+    requires theirs { IfOk theirs (λ hands. AllByRecursion (HandIsMade jobs.items) hands.items) }
+    requires mine { HandIsMade jobs.items mine }
     ensures { AllZip IsAnswered jobs.items result.items }
 {
     answer_all(crew, theirs, mine, jobs.as_mut_slice());

@@ -21,14 +21,6 @@ pub use pick::Pick;
 pub use work::run_all_work;
 
 // What lower crates offer, for the crates above.
-pub mod element {
-    pub use mw_session_laws::element::Element;
-}
-
-pub mod netpbm {
-    pub use mw_session_laws::netpbm::read_owned;
-}
-
-pub mod pixel {
-    pub use mw_session_laws::pixel::Image;
+pub mod payloads {
+    pub use mw_session_laws::{read_element, read_image};
 }

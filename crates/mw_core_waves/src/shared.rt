@@ -2,7 +2,7 @@
 
 ghost use Rattle.std.specs.Prelude.{IfOk, IfSome, vec_items};
 ghost use Rattle.std.specs.List.{AllByRecursion, AllZip};
-ghost use Rattle.mw_core_waves.specs.Jobs.{AreMade, IsKept, IsMadeAt};
+ghost use Rattle.mw_core_waves.specs.Jobs.{HandIsMade, IsKept, IsMadeAt};
 
 use crate::job::WaveTask;
 use mw_model::NoMemory;
@@ -59,7 +59,7 @@ pub(crate) fn make_by<T: Threads + Sync>(
     jobs: &[WaveTask],
     begun: &AtomicUsize,
 ) -> Result<Vec<Vec<MadeTile>>, AllocError>
-    ensures { IfOk result (λ hands. AllByRecursion (AreMade jobs.now) hands.items) }
+    ensures { IfOk result (λ hands. AllByRecursion (HandIsMade jobs.now) hands.items) }
 {
     thread::map_indices(
         rt,
@@ -83,7 +83,7 @@ fn put(made: MadeTile, jobs: &mut [WaveTask])
 
 /// Answers the tasks of which one worker made something.
 pub(crate) fn put_hand(hand: Vec<MadeTile>, jobs: &mut [WaveTask])
-    requires { AreMade jobs.old hand }
+    requires { HandIsMade jobs.old hand }
     ensures { AllZip IsKept jobs.old jobs.new }
 {
     for made in hand {
@@ -93,7 +93,7 @@ pub(crate) fn put_hand(hand: Vec<MadeTile>, jobs: &mut [WaveTask])
 
 /// Answers the tasks of which several workers made something.
 fn put_hands(hands: Vec<Vec<MadeTile>>, jobs: &mut [WaveTask])
-    requires { AllByRecursion (AreMade jobs.old) hands.items }
+    requires { AllByRecursion (HandIsMade jobs.old) hands.items }
     ensures { AllZip IsKept jobs.old jobs.new }
 {
     for hand in hands {
@@ -101,9 +101,9 @@ fn put_hands(hands: Vec<Vec<MadeTile>>, jobs: &mut [WaveTask])
     }
 }
 
-/// The same, where there was memory for what they made.
+/// Answers the tasks of which several workers made something, where there was memory for what they made.
 pub(crate) fn put_all(hands: Result<Vec<Vec<MadeTile>>, AllocError>, jobs: &mut [WaveTask])
-    requires { IfOk hands (λ v. AllByRecursion (AreMade jobs.old) v.items) }
+    requires { IfOk hands (λ v. AllByRecursion (HandIsMade jobs.old) v.items) }
     ensures { AllZip IsKept jobs.old jobs.new }
 {
     match hands {

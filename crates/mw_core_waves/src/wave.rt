@@ -7,7 +7,7 @@ ghost use Rattle.mw_model.specs.Stands.{CoreView, StandsFor, ready_count, runnin
 ghost use Rattle.mw_step.specs.mw_step_task.WindowTasks.{IsBounded};
 ghost use Rattle.mw_core.specs.TaskAnswers.{Picks, StartsBounded};
 ghost use Rattle.mw_core_waves.specs.declared.job.WaveTask.{WaveTask};
-ghost use Rattle.mw_core_waves.specs.Jobs.{AreMade, IsBoundedJob};
+ghost use Rattle.mw_core_waves.specs.Jobs.{HandIsMade, IsBoundedJob};
 ghost use Rattle.mw_core_waves.specs.Waves.{Underway, Took};
 ghost use Rattle.mw_core_waves.specs.Work.{Turned};
 
@@ -109,7 +109,7 @@ fn own_part<P: Pick>(
     requires { AllByRecursion IsBoundedJob beside.old.items }
     ensures underway { (m : Machine) (old : CoreView) (others : List WaveTask) → Underway m old core.old (beside.old.items ++ others) 1 → Underway m old core.new (others ++ beside.new.items) 1 }
     ensures bounded { AllByRecursion IsBoundedJob beside.new.items }
-    ensures made { AreMade jobs.now result }
+    ensures made { HandIsMade jobs.now result }
 {
     let done = mem::replace(beside, Vec::new(alloc));
     hand_all(alloc, core, done);
@@ -129,8 +129,8 @@ fn make_beside<P: Pick, T: Threads + Sync>(
     requires { AllByRecursion IsBoundedJob beside.old.items }
     ensures underway { (m : Machine) (old : CoreView) (others : List WaveTask) → Underway m old core.old (beside.old.items ++ others) 1 → Underway m old core.new (others ++ beside.new.items) 1 }
     ensures bounded { AllByRecursion IsBoundedJob beside.new.items }
-    ensures theirs { IfOk result.0 (λ hands. AllByRecursion (AreMade jobs.now) hands.items) }
-    ensures mine { AreMade jobs.now result.1 }
+    ensures theirs { IfOk result.0 (λ hands. AllByRecursion (HandIsMade jobs.now) hands.items) }
+    ensures mine { HandIsMade jobs.now result.1 }
 {
     let next = AtomicUsize::new(0);
     let (rt, alloc, begun) = (crew.rt, crew.alloc, &next);
@@ -143,11 +143,11 @@ fn make_beside<P: Pick, T: Threads + Sync>(
     thread::join_mut(
         rt,
         &mut || -> Result<Vec<Vec<MadeTile>>, AllocError>
-            ensures { IfOk result (λ hands. AllByRecursion (AreMade jobs.entry.now) hands.items) }
+            ensures { IfOk result (λ hands. AllByRecursion (HandIsMade jobs.entry.now) hands.items) }
         { make_by(rt, alloc, others, jobs, begun) },
         &mut || -> Vec<MadeTile>
             requires { AllByRecursion IsBoundedJob beside.now.items }
-            ensures { ((m : Machine) (old : CoreView) (others : List WaveTask) → Underway m old core.entry.now (beside.entry.now.items ++ others) 1 → Underway m old core.exit.now (others ++ beside.exit.now.items) 1) × AllByRecursion IsBoundedJob beside.exit.now.items × AreMade jobs.entry.now result }
+            ensures { ((m : Machine) (old : CoreView) (others : List WaveTask) → Underway m old core.entry.now (beside.entry.now.items ++ others) 1 → Underway m old core.exit.now (others ++ beside.exit.now.items) 1) × AllByRecursion IsBoundedJob beside.exit.now.items × HandIsMade jobs.entry.now result }
         { own_part(alloc, most, jobs, begun, core, pick, beside) },
     )
 }

@@ -13,8 +13,8 @@ use Rattle.std.proofs.lemmas.List.Folds.{list_any-append}
 use Rattle.std.proofs.lemmas.Map.Made.{is_member-Decides, length-le_from_is_member, length-from_same_keys}
 use Rattle.std.proofs.lemmas.Map.Keys.{IsDistinct-cons}
 use Rattle.mw_model.proofs.mw_facts.Alls.{all-weaker, all-append, all-contains}
-use Rattle.mw_model.specs.declared.places.Offset.{Offset}
-use Rattle.mw_model.specs.declared.places.OffsetBox.{OffsetBox}
+use Rattle.mw_model.specs.declared.offsets.Offset.{Offset}
+use Rattle.mw_model.specs.declared.offsets.OffsetBox.{OffsetBox}
 use Rattle.mw_model.specs.Elements.{same_offset}
 use Rattle.mw_model.proofs.Covers.{offset, offset-same}
 use Rattle.mw_element.specs.Figures.{FillsBox, InBox, LiesIn}

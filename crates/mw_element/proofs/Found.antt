@@ -2,7 +2,7 @@
 use Rattle.std.proofs.Common.{◌≡◌, ℕ, ◌*◌, ◌<◌, ◌≤◌, List, [], length, Result, Ok, Err, refl, sym, ap, subst, ◌∙◌, arith, inl, inr, ◌⊎◌}
 use Rattle.std.specs.Prelude.{count_by, ◌==◌, ◌≢◌}
 use Rattle.mw_model.specs.declared.codes.Code.TheVariants as code
-use Rattle.mw_model.specs.declared.places.Offset.{Offset}
+use Rattle.mw_model.specs.declared.offsets.Offset.{Offset}
 use Rattle.mw_model.specs.Rasters.{Raster}
 use Rattle.mw_model.specs.Bitmaps.{IsBitmap, SidesFit}
 use Rattle.mw_model.specs.Elements.{Figure, IsFigure, IsElement, ElementRefuses, HoldsPlace, element_side, figure_of, offsets_of, no_origin, no_pixel}

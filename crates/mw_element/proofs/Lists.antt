@@ -10,12 +10,12 @@ use Rattle.std.specs.List.{AllByRecursion, IsDistinct}
 use Rattle.std.proofs.lemmas.Bool.Decides.{Decides-and, Decides-int_eq, Decides-like}
 use Rattle.std.proofs.lemmas.Int.{ints}
 use Rattle.mw_model.proofs.mw_facts.Alls.{all-weaker, all-push}
-use Rattle.mw_model.specs.declared.places.Offset.{Offset}
-use Rattle.mw_model.specs.declared.places.OffsetBox.{OffsetBox}
-use Rattle.mw_model.specs.declared.places.Reach.{Reach}
+use Rattle.mw_model.specs.declared.offsets.Offset.{Offset}
+use Rattle.mw_model.specs.declared.offsets.OffsetBox.{OffsetBox}
+use Rattle.mw_model.specs.declared.offsets.Reach.{Reach}
 use Rattle.mw_model.specs.Elements.{IsFigure, IsNear, reach_of, same_offset}
-use Rattle.mw_model.specs.Places.{nonnegative, WithinReach}
-use Rattle.mw_element.specs.Figures.{InBox, LiesIn, figure, grown, turned}
+use Rattle.mw_model.specs.Rectangles.{nonnegative, WithinReach}
+use Rattle.mw_element.specs.Figures.{InBox, LiesIn, figure, reach_grown, turned}
 use Rattle.mw_model.specs.Flat.{greatest, reflected}
 use Rattle.mw_model.proofs.Covers.{offset-same}
 
@@ -82,7 +82,7 @@ greatest_more (x ∷ xs) n = ap (max x) (greatest_more xs n) ∙ omega arith
 far_more : (f : Offset → ℕ) (xs : List Offset) (b : Offset) → greatest (map f (xs ++ b ∷ [])) ≡ max (greatest (map f xs)) (f b)
 far_more f xs b = ap greatest (map-append f xs (b ∷ [])) ∙ greatest_more (map f xs) (f b)
 
-pub reach_more : (xs : List Offset) (b : Offset) → reach_of (xs ++ b ∷ []) ≡ grown (reach_of xs) b
+pub reach_more : (xs : List Offset) (b : Offset) → reach_of (xs ++ b ∷ []) ≡ reach_grown (reach_of xs) b
 reach_more xs b =
     rw (
       far_more (λ (o : Offset). nonnegative (neg_ℤ o.dx)) xs b,
@@ -134,9 +134,9 @@ boxed_below box (x ∷ xs) some all = (omega (arith, ints, all.0.left, all.0.rig
 
 -- ---- steps of loops
 
-pub reach_step : (xs : List Offset) (i : ℕ) (d : Offset) (old new : Reach) → i < length xs → old ≡ reach_of (take i xs) → new ≡ grown old (get_or xs i d) → new ≡ reach_of (take (i + 1) xs)
+pub reach_step : (xs : List Offset) (i : ℕ) (d : Offset) (old new : Reach) → i < length xs → old ≡ reach_of (take i xs) → new ≡ reach_grown old (get_or xs i d) → new ≡ reach_of (take (i + 1) xs)
 reach_step xs i d old new lt so_far e =
-    e ∙ ap (λ (r : Reach). grown r (get_or xs i d)) so_far ∙ sym (reach_more (take i xs) (get_or xs i d)) ∙ ap reach_of (sym (take_more xs i d lt))
+    e ∙ ap (λ (r : Reach). reach_grown r (get_or xs i d)) so_far ∙ sym (reach_more (take i xs) (get_or xs i d)) ∙ ap reach_of (sym (take_more xs i d lt))
 
 pub reach_end : (xs : List Offset) (i : ℕ) (r : Reach) → length xs ≤ i → r ≡ reach_of (take i xs) → WithinReach r xs
 reach_end xs i r le e =

@@ -6,11 +6,11 @@ use Rattle.std.proofs.lemmas.Int.{ints}
 use Rattle.std.proofs.lemmas.List.{reverse-reverse, reverse-append}
 use Rattle.std.proofs.lemmas.List.Sorted.{IsPermutation-reverse, list_any-IsPermutation}
 use Rattle.mw_model.proofs.mw_facts.Alls.{all-weaker, all-append, all-push}
-use Rattle.mw_model.specs.declared.places.Offset.{Offset}
+use Rattle.mw_model.specs.declared.offsets.Offset.{Offset}
 use Rattle.mw_model.specs.Rasters.{Raster}
 use Rattle.mw_model.specs.Elements.{offset_from, offsets_in_row, offsets_of, overlaps, same_offset}
 use Rattle.mw_model.specs.Flat.{reflected}
-use Rattle.mw_element.specs.Figures.{Rises, by_rows, row_key, turned}
+use Rattle.mw_element.specs.Figures.{OffsetsRise, by_rows, row_key, turned}
 use Rattle.mw_element.proofs.Lists.{not_same}
 use Rattle.mw_element.proofs.Rows.{row_part, rows_part}
 
@@ -30,7 +30,7 @@ below_stronger : (j k : ℤ) (xs : List Offset) → k ≤ℤ j → AllBelow k xs
 below_stronger j k xs le all = all-weaker (λ (b : Offset). row_key b <ℤ k) (λ (b : Offset). row_key b <ℤ j) xs (λ b below. omega (arith, ints, le, below)) all
 
 -- two lists, with a key between them
-rises_append : (k : ℤ) (xs ys : List Offset) → Rises xs → AllBelow k xs → Rises ys → AllFrom k ys → Rises (xs ++ ys)
+rises_append : (k : ℤ) (xs ys : List Offset) → OffsetsRise xs → AllBelow k xs → OffsetsRise ys → AllFrom k ys → OffsetsRise (xs ++ ys)
 rises_append k [] ys r below s from = s
 rises_append k (x ∷ xs) ys r below s from =
     (all-append (λ (c : Offset). row_key x <ℤ row_key c) xs ys r.0 (from_after k x ys below.0 from), rises_append k xs ys r.1 below.1 s from)
@@ -59,12 +59,12 @@ row_below f ox oy y x (suc n) =
       | false ↦ rest
     ]
 
-row_rises : (f : Raster ℕ) (ox oy y x n : ℕ) → Rises (row_part f ox oy y x n)
+row_rises : (f : Raster ℕ) (ox oy y x n : ℕ) → OffsetsRise (row_part f ox oy y x n)
 row_rises f ox oy y x zero = tt
 row_rises f ox oy y x (suc n) =
     let rest = row_rises f ox oy y (x + 1) n in
     let after = from_after (key_at ox oy (x + 1) y) (offset_from ox oy x y) (row_part f ox oy y (x + 1) n) (omega (arith, ints)) (row_from f ox oy y (x + 1) n) in
-    elim (eqb (slice_index f.cells (y * f.width + x)) 1) as (λ (b : Bool). Rises (cons_option (cond b (Some (offset_from ox oy x y)) None) (row_part f ox oy y (x + 1) n))) [
+    elim (eqb (slice_index f.cells (y * f.width + x)) 1) as (λ (b : Bool). OffsetsRise (cons_option (cond b (Some (offset_from ox oy x y)) None) (row_part f ox oy y (x + 1) n))) [
       | true ↦ (after, rest)
       | false ↦ rest
     ]
@@ -75,13 +75,13 @@ rows_from f ox oy y (suc n) =
     all-append (λ (b : Offset). key_at ox oy 0 y ≤ℤ row_key b) (offsets_in_row f ox oy y) (rows_part f ox oy (y + 1) n) (row_from f ox oy y 0 f.width)
     (from_weaker (key_at ox oy 0 y) (key_at ox oy 0 (y + 1)) (rows_part f ox oy (y + 1) n) (omega (arith, ints)) (rows_from f ox oy (y + 1) n))
 
-rows_rise : (f : Raster ℕ) (ox oy y n : ℕ) → f.width ≤ 1024 → Rises (rows_part f ox oy y n)
+rows_rise : (f : Raster ℕ) (ox oy y n : ℕ) → f.width ≤ 1024 → OffsetsRise (rows_part f ox oy y n)
 rows_rise f ox oy y zero le = tt
 rows_rise f ox oy y (suc n) le =
     rises_append (key_at ox oy 0 (y + 1)) (offsets_in_row f ox oy y) (rows_part f ox oy (y + 1) n) (row_rises f ox oy y 0 f.width)
     (below_stronger (key_at ox oy 0 (y + 1)) (key_at ox oy (0 + f.width) y) (offsets_in_row f ox oy y) (omega (arith, ints)) (row_below f ox oy y 0 f.width)) (rows_rise f ox oy (y + 1) n le) (rows_from f ox oy (y + 1) n)
 
-pub offsets_rise : (f : Raster ℕ) (ox oy : ℕ) → f.width ≤ 255 → Rises (offsets_of f ox oy)
+pub offsets_rise : (f : Raster ℕ) (ox oy : ℕ) → f.width ≤ 255 → OffsetsRise (offsets_of f ox oy)
 offsets_rise f ox oy le = rows_rise f ox oy 0 f.height (omega arith)
 
 -- ---- the offsets of a reflected element
@@ -94,10 +94,10 @@ pub all_reverse : (P : Offset → Type 0) (xs : List Offset) → AllByRecursion 
 all_reverse P [] all = tt
 all_reverse P (x ∷ xs) all = subst (AllByRecursion P) (sym (reverse-append (x ∷ []) xs)) (all-push P (reverse xs) x (all_reverse P xs all.1) all.0)
 
-rises_turned : (xs : List Offset) → Rises xs → Rises (reverse (reflected xs))
+rises_turned : (xs : List Offset) → OffsetsRise xs → OffsetsRise (reverse (reflected xs))
 rises_turned [] r = tt
 rises_turned (x ∷ xs) r =
-    subst Rises (sym (reverse-append (turned x ∷ []) (reflected xs)))
+    subst OffsetsRise (sym (reverse-append (turned x ∷ []) (reflected xs)))
     (rises_append (row_key (turned x)) (reverse (reflected xs)) (turned x ∷ []) (rises_turned xs r.1) (all_reverse (λ (b : Offset). row_key b <ℤ row_key (turned x)) (reflected xs) (before_turned x xs r.0)) (tt, tt) (omega (arith, ints), tt))
 
 reflected_append : (xs ys : List Offset) → reflected (xs ++ ys) ≡ reflected xs ++ reflected ys
@@ -109,11 +109,11 @@ reflected_reverse [] = refl
 reflected_reverse (x ∷ xs) =
     ap reflected (reverse-append (x ∷ []) xs) ∙ reflected_append (reverse xs) (x ∷ []) ∙ ap (λ (bs : List Offset). bs ++ turned x ∷ []) (reflected_reverse xs) ∙ sym (reverse-append (turned x ∷ []) (reflected xs))
 
-pub reflected_rise : (is_turned : Bool) (xs : List Offset) → Rises (by_rows is_turned xs) → Rises (by_rows (not is_turned) (reflected xs))
+pub reflected_rise : (is_turned : Bool) (xs : List Offset) → OffsetsRise (by_rows is_turned xs) → OffsetsRise (by_rows (not is_turned) (reflected xs))
 reflected_rise false xs r = rises_turned xs r
 reflected_rise true xs r =
     let back : reverse (reflected (reverse xs)) ≡ reflected xs = sym (reflected_reverse (reverse xs)) ∙ ap reflected (reverse-reverse xs) in
-    subst Rises back (rises_turned (reverse xs) r)
+    subst OffsetsRise back (rises_turned (reverse xs) r)
 
 -- ---- one pass over two lists
 
@@ -141,8 +141,8 @@ overlaps-after b (x ∷ xs) bs all = rw (key_apart_back x b all.0, overlaps-afte
 
 -- the offsets that two lists still have, and those that they had
 pub record Passes (first_turned second_turned : Bool) (first_rest second_rest first second : List Offset) : Type 0 where
-  pub first_rises : Rises (by_rows first_turned first_rest)
-  pub second_rises : Rises (by_rows second_turned second_rest)
+  pub first_rises : OffsetsRise (by_rows first_turned first_rest)
+  pub second_rises : OffsetsRise (by_rows second_turned second_rest)
   pub same : overlaps (by_rows first_turned first_rest) (by_rows second_turned second_rest) ≡ overlaps first second
 
 any_by_rows : (p : Offset → Bool) (is_turned : Bool) (xs : List Offset) → list_any p (by_rows is_turned xs) ≡ list_any p xs
@@ -153,7 +153,7 @@ second_by_rows : (is_turned : Bool) (xs ys : List Offset) → overlaps xs (by_ro
 second_by_rows is_turned [] ys = refl
 second_by_rows is_turned (x ∷ xs) ys = rw (any_by_rows (same_offset x) is_turned ys, second_by_rows is_turned xs ys) refl
 
-pub passes_first : (s t : Bool) (first second : List Offset) → Rises (by_rows s first) → Rises (by_rows t second) → Passes s t first second first second
+pub passes_first : (s t : Bool) (first second : List Offset) → OffsetsRise (by_rows s first) → OffsetsRise (by_rows t second) → Passes s t first second first second
 passes_first s t first second r q = record {
   first_rises = r;
   second_rises = q;
@@ -173,8 +173,8 @@ skip_second a b as' bs apart rest = rw apart (ap (λ (t : Bool). list_any (same_
 pub passes_on_first : (s t : Bool) (rest after others first second : List Offset) (a b : Offset) (bs : List Offset) → Passes s t rest others first second → by_rows s rest ≡ a ∷ by_rows s after → by_rows t others ≡ b ∷ bs
     → same_offset a b ≡ false → row_key a <ℤ row_key b → Passes s t after others first second
 passes_on_first s t rest after others first second a b bs p e f apart lt =
-    let r : Rises (a ∷ by_rows s after) = subst Rises e p.first_rises in
-    let q : Rises (b ∷ bs) = subst Rises f p.second_rises in
+    let r : OffsetsRise (a ∷ by_rows s after) = subst OffsetsRise e p.first_rises in
+    let q : OffsetsRise (b ∷ bs) = subst OffsetsRise f p.second_rises in
     let none : list_any (same_offset a) bs ≡ false = before_none a bs (all_after a b bs (omega (arith, ints, lt)) q.0) in
     let both : overlaps (by_rows s rest) (by_rows t others) ≡ overlaps (by_rows s after) (b ∷ bs) = seen_by_rows s t rest others (a ∷ by_rows s after) (b ∷ bs) e f ∙ skip_first a b (by_rows s after) bs apart none in
     record {
@@ -186,8 +186,8 @@ passes_on_first s t rest after others first second a b bs p e f apart lt =
 pub passes_on_second : (s t : Bool) (rest others after first second : List Offset) (a b : Offset) (as' : List Offset) → Passes s t rest others first second → by_rows s rest ≡ a ∷ as' → by_rows t others ≡ b ∷ by_rows t after
     → same_offset a b ≡ false → row_key b ≤ℤ row_key a → Passes s t rest after first second
 passes_on_second s t rest others after first second a b as' p e f apart le =
-    let r : Rises (a ∷ as') = subst Rises e p.first_rises in
-    let q : Rises (b ∷ by_rows t after) = subst Rises f p.second_rises in
+    let r : OffsetsRise (a ∷ as') = subst OffsetsRise e p.first_rises in
+    let q : OffsetsRise (b ∷ by_rows t after) = subst OffsetsRise f p.second_rises in
     let both : overlaps (by_rows s rest) (by_rows t others) ≡ overlaps (a ∷ as') (by_rows t after) =
     seen_by_rows s t rest others (a ∷ as') (b ∷ by_rows t after) e f ∙ skip_second a b as' (by_rows t after) apart (overlaps-after b as' (by_rows t after) (all_after b a as' le r.0)) in
     record {

@@ -16,7 +16,7 @@ use Rattle.std.proofs.Math.Arith.{digits_lt}
 use Rattle.mw_model.proofs.mw_facts.Alls.{all-append}
 use Rattle.mw_model.proofs.mw_facts.Ranges.{range_with_len-more}
 use Rattle.mw_model.proofs.mw_facts.Elements.{append-empty}
-use Rattle.mw_model.specs.declared.places.Offset.{Offset}
+use Rattle.mw_model.specs.declared.offsets.Offset.{Offset}
 use Rattle.mw_model.specs.Rasters.{Raster}
 use Rattle.mw_model.specs.Elements.{IsNear, offset_from, offsets_in_row, offsets_of, same_offset}
 use Rattle.mw_element.proofs.Boxes.{Follows, Below, apart_right, row_apart, distinct_append, distinct_nil, below_row, below_more, follows_more}

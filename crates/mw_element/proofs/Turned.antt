@@ -7,16 +7,16 @@ use Rattle.std.proofs.lemmas.List.{append-nil, ext_get_or, get_or-map, get_or-re
 use Rattle.std.proofs.lemmas.List.FromFn.{get_or-map-range_with_len, length-map-range_with_len}
 use Rattle.std.proofs.lemmas.Grind.{flat_map-append}
 use Rattle.mw_model.proofs.mw_facts.Alls.{all-append_left, all-append_right, all-get_or, all-push}
-use Rattle.mw_model.specs.declared.places.Offset.{Offset}
-use Rattle.mw_model.specs.declared.places.OffsetBox.{OffsetBox}
+use Rattle.mw_model.specs.declared.offsets.Offset.{Offset}
+use Rattle.mw_model.specs.declared.offsets.OffsetBox.{OffsetBox}
 use Rattle.mw_model.specs.Elements.{IsNear, reach_of}
-use Rattle.mw_model.specs.Places.{nonnegative}
+use Rattle.mw_model.specs.Rectangles.{nonnegative}
 use Rattle.mw_model.specs.Flat.{greatest, reflected}
 use Rattle.mw_element_runs.specs.declared.runs.Run.{Run}
 use Rattle.mw_element_runs.specs.Runs.{run_offsets, start_offset, follows_back, pairs, pairs_from, AreEitherWay, AreFewest, AreLongest, Continues, IsRun}
 use Rattle.mw_element_runs.proofs.Fewest.{fewest_onward, follows_on, none_more}
 use Rattle.mw_element_runs.proofs.RunLists.{offset_is}
-use Rattle.mw_element.specs.Figures.{FillsBox, InBox, Rises, by_rows, turned}
+use Rattle.mw_element.specs.Figures.{FillsBox, InBox, OffsetsRise, by_rows, turned}
 use Rattle.mw_element.proofs.Order.{all_reverse, reflected_reverse}
 use Rattle.mw_element.specs.Told.{IsNearRun, TellsRuns, turned_reach, turned_run, turned_runs}
 
@@ -179,7 +179,7 @@ same_offsets true xs ys runs first second = sym (reverse-reverse xs) ∙ ap reve
 
 -- ---- runs of offsets that rise
 
-none_back : (a : Offset) (xs : List Offset) → Rises (a ∷ xs) → pairs_from follows_back a xs ≡ 0
+none_back : (a : Offset) (xs : List Offset) → OffsetsRise (a ∷ xs) → pairs_from follows_back a xs ≡ 0
 none_back a [] rises = refl
 none_back a (b ∷ xs) rises =
     let not : follows_back a b ≡ false =
@@ -189,11 +189,11 @@ none_back a (b ∷ xs) rises =
     ] in
     omega (arith, none_more (follows_back a b) not, none_back b xs rises.1)
 
-back_none : (xs : List Offset) → Rises xs → pairs follows_back xs ≡ 0
+back_none : (xs : List Offset) → OffsetsRise xs → pairs follows_back xs ≡ 0
 back_none [] rises = refl
 back_none (a ∷ xs) rises = none_back a xs rises
 
-pub runs_of_rows : (offsets : List Offset) (runs : List Run) → Rises offsets → flat_map run_offsets runs ≡ offsets → AllByRecursion IsRun runs → AreLongest runs → TellsRuns false runs offsets
+pub runs_of_rows : (offsets : List Offset) (runs : List Run) → OffsetsRise offsets → flat_map run_offsets runs ≡ offsets → AllByRecursion IsRun runs → AreLongest runs → TellsRuns false runs offsets
 runs_of_rows offsets runs rises same each longest = record {
   whole = same;
   each = each;

@@ -1,11 +1,11 @@
 -- What an element shows, and what its parts compute.
 use Rattle.std.specs.Prelude.{ℕ, ℤ, pos, ◌+ℤ◌, ◌*ℤ◌, ◌<ℤ◌, ◌≤ℤ◌, neg_ℤ, ◌↔◌, Bool, List, [], ◌∷◌, reverse, max, if◌then◌else◌}
 use Rattle.std.specs.List.{AllByRecursion, Contains}
-use Rattle.mw_model.specs.declared.places.Offset.{Offset}
-use Rattle.mw_model.specs.declared.places.OffsetBox.{OffsetBox}
-use Rattle.mw_model.specs.declared.places.Reach.{Reach}
+use Rattle.mw_model.specs.declared.offsets.Offset.{Offset}
+use Rattle.mw_model.specs.declared.offsets.OffsetBox.{OffsetBox}
+use Rattle.mw_model.specs.declared.offsets.Reach.{Reach}
 use Rattle.mw_model.specs.Elements.{Figure}
-use Rattle.mw_model.specs.Places.{nonnegative}
+use Rattle.mw_model.specs.Rectangles.{nonnegative}
 
 -- the element of these sides and offsets
 abbrev pub figure : ℕ → ℕ → List Offset → Figure
@@ -16,8 +16,8 @@ abbrev pub turned : Offset → Offset
 turned b = record { dx = neg_ℤ b.dx; dy = neg_ℤ b.dy }
 
 -- the reach that goes as far as the offset too
-abbrev pub grown : Reach → Offset → Reach
-grown reach b = record {
+abbrev pub reach_grown : Reach → Offset → Reach
+reach_grown reach b = record {
   left = max reach.left (nonnegative (neg_ℤ b.dx));
   right = max reach.right (nonnegative b.dx);
   up = max reach.up (nonnegative (neg_ℤ b.dy));
@@ -47,9 +47,9 @@ abbrev pub row_key : Offset → ℤ
 row_key b = (pos 1024 *ℤ b.dy) +ℤ b.dx
 
 -- each offset stands before all that follow it
-abbrev pub Rises : List Offset → Type 0
-Rises [] = Unit {0}
-Rises (b ∷ bs) = AllByRecursion (λ c. row_key b <ℤ row_key c) bs × Rises bs
+abbrev pub OffsetsRise : List Offset → Type 0
+OffsetsRise [] = Unit {0}
+OffsetsRise (b ∷ bs) = AllByRecursion (λ c. row_key b <ℤ row_key c) bs × OffsetsRise bs
 
 -- the offsets by rows, where those of a reflected element stand from the last to the first
 abbrev pub by_rows : Bool → List Offset → List Offset

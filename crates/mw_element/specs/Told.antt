@@ -1,9 +1,9 @@
 -- What an element knows of its offsets from the moment when it is made.
 use Rattle.std.specs.Prelude.{◌≡◌, ◌<◌, pos, negsuc, neg_ℤ, ◌+ℤ◌, ◌-ℤ◌, ◌≤ℤ◌, Bool, List, map, flat_map, reverse, Option, IfSome, IfNone}
 use Rattle.std.specs.List.{AllByRecursion}
-use Rattle.mw_model.specs.declared.places.Offset.{Offset}
-use Rattle.mw_model.specs.declared.places.OffsetBox.{OffsetBox}
-use Rattle.mw_model.specs.declared.places.Reach.{Reach}
+use Rattle.mw_model.specs.declared.offsets.Offset.{Offset}
+use Rattle.mw_model.specs.declared.offsets.OffsetBox.{OffsetBox}
+use Rattle.mw_model.specs.declared.offsets.Reach.{Reach}
 use Rattle.mw_element_runs.specs.declared.runs.Run.{Run}
 use Rattle.mw_element_runs.specs.Runs.{run_offsets, AreLongest, AreFewest, IsRun}
 use Rattle.mw_element.specs.Figures.{FillsBox, by_rows}

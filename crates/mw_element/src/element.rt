@@ -23,8 +23,9 @@ pub struct Element {
 }
 
 impl Model for Element {
+    ghost use Rattle.mw_model.specs.declared.limits.TheConstants.{OFFSET_LIMIT};
     ghost use Rattle.mw_model.specs.Elements.{Figure, IsFigure, reach_of};
-    ghost use Rattle.mw_element.specs.Figures.{Rises, by_rows, figure};
+    ghost use Rattle.mw_element.specs.Figures.{OffsetsRise, by_rows, figure};
     ghost use Rattle.mw_element.specs.Told.{TellsBox, TellsRuns};
 
     ghost Value = { Figure };
@@ -33,17 +34,18 @@ impl Model for Element {
 
     ghost use Rattle.std.specs.Prelude.{◌≡◌, ◌≤◌, length};
 
-    ghost invariant = { λ a. IsFigure (figure a.width a.height a.offsets.items) × (length a.offsets.items ≤ 65025) × Rises (by_rows a.is_turned a.offsets.items) × (a.reach ≡ reach_of a.offsets.items) × TellsBox a.rectangle a.offsets.items × TellsRuns a.is_turned a.runs.items a.offsets.items };
+    ghost invariant = { λ a. IsFigure (figure a.width a.height a.offsets.items) × (length a.offsets.items ≤ OFFSET_LIMIT) × OffsetsRise (by_rows a.is_turned a.offsets.items) × (a.reach ≡ reach_of a.offsets.items) × TellsBox a.rectangle a.offsets.items × TellsRuns a.is_turned a.runs.items a.offsets.items };
 }
 
 impl Element {
     ghost use Rattle.std.specs.Prelude.{◌≡◌, ◌↔◌, ◌≤◌, length, IsTrue, IfOk, IfSome, IfNone};
-    ghost use Rattle.mw_model.specs.declared.places.OffsetBox.{OffsetBox};
+    ghost use Rattle.mw_model.specs.declared.limits.TheConstants.{OFFSET_LIMIT};
+    ghost use Rattle.mw_model.specs.declared.offsets.OffsetBox.{OffsetBox};
     ghost use Rattle.mw_model.specs.Elements.{IsFigure, holds_origin, overlaps, reach_of};
-    ghost use Rattle.mw_element.specs.Figures.{FillsBox, Rises, figure};
+    ghost use Rattle.mw_element.specs.Figures.{FillsBox, OffsetsRise, figure};
     ghost use Rattle.std.specs.List.{AllByRecursion};
     ghost use Rattle.mw_model.specs.Flat.{reflected};
-    ghost use Rattle.mw_model.specs.Places.{WithinReach};
+    ghost use Rattle.mw_model.specs.Rectangles.{WithinReach};
     ghost use Rattle.mw_element_runs.specs.Runs.{AreEitherWay, AreLongest, AreFewest, IsRun};
     ghost use Rattle.mw_element.specs.Told.{TellsBox};
 
@@ -55,8 +57,8 @@ impl Element {
         offsets: Vec<Offset>,
     ) -> Result<Element, NoMemory>
         requires figure { IsFigure (figure width height offsets.items) }
-        requires few { length offsets.items ≤ 65025 }
-        requires ordered { Rises offsets.items }
+        requires few { length offsets.items ≤ OFFSET_LIMIT }
+        requires ordered { OffsetsRise offsets.items }
         ensures { IfOk result (λ e. e ≡ figure width height offsets.items) }
     {
         let reach = offsets::reach(&offsets);
@@ -77,7 +79,7 @@ impl Element {
     pub fn offsets(&self) -> &[Offset]
         ensures value { result.now ≡ self.now.offsets }
         ensures figure { IsFigure self.now }
-        ensures few { length self.now.offsets ≤ 65025 }
+        ensures few { length self.now.offsets ≤ OFFSET_LIMIT }
     {
         &self.offsets
     }

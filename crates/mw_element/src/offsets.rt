@@ -2,10 +2,10 @@
 
 ghost use Rattle.std.specs.Prelude.{◌≡◌, ◌↔◌, ◌+◌, ◌<◌, ◌≤◌, ◌+ℤ◌, ◌≤ℤ◌, pos, max, neg_ℤ, [], ◌∷◌, length, IsTrue, IfOk, IfSome, IfNone, MatchOption};
 ghost use Rattle.std.specs.List.{AllByRecursion, IsDistinct};
-ghost use Rattle.mw_model.specs.declared.places.OffsetBox.{OffsetBox};
+ghost use Rattle.mw_model.specs.declared.offsets.OffsetBox.{OffsetBox};
 ghost use Rattle.mw_model.specs.Elements.{IsNear, holds_origin, overlaps, reach_of, same_offset};
-ghost use Rattle.mw_model.specs.Places.{nonnegative, WithinReach};
-ghost use Rattle.mw_element.specs.Figures.{FillsBox, InBox, LiesIn, Rises, by_rows, grown, row_key, turned};
+ghost use Rattle.mw_model.specs.Rectangles.{nonnegative, WithinReach};
+ghost use Rattle.mw_element.specs.Figures.{FillsBox, InBox, LiesIn, OffsetsRise, by_rows, reach_grown, row_key, turned};
 ghost use Rattle.mw_model.specs.Flat.{reflected};
 
 use mw_model::{NoMemory, Offset, OffsetBox, Reach};
@@ -90,8 +90,8 @@ pub(crate) fn overlap(
     second: &[Offset],
     is_second_turned: bool,
 ) -> bool
-    requires first { Rises (by_rows is_first_turned first.now) }
-    requires second { Rises (by_rows is_second_turned second.now) }
+    requires first { OffsetsRise (by_rows is_first_turned first.now) }
+    requires second { OffsetsRise (by_rows is_second_turned second.now) }
     ensures { result ≡ overlaps first.now second.now }
 {
     let mut first_rest = first;
@@ -123,7 +123,7 @@ fn distance(along: i32) -> u32
 
 /// The reach that goes as far as the offset too.
 fn grow(reach: Reach, b: Offset) -> Reach
-    ensures { result ≡ grown reach b }
+    ensures { result ≡ reach_grown reach b }
 {
     let dx = i32::from(b.dx);
     let dy = i32::from(b.dy);

@@ -2,7 +2,7 @@
 
 ghost use Rattle.std.specs.Prelude.{◌≡◌, false, IsTrue, IfOk};
 ghost use Rattle.std.specs.List.{AllByRecursion};
-ghost use Rattle.mw_element.specs.Figures.{Rises};
+ghost use Rattle.mw_element.specs.Figures.{OffsetsRise};
 ghost use Rattle.mw_element.specs.Told.{IsNearRun, TellsRuns, turned_run, turned_runs};
 
 use mw_element_runs::{Run, runs_of};
@@ -11,7 +11,7 @@ use std::alloc::Global;
 
 /// The runs of offsets that stand by rows, in as much memory as they take.
 pub(crate) fn by_rows(alloc: Global, offsets: &[Offset]) -> Result<Vec<Run>, NoMemory>
-    requires { Rises offsets.now }
+    requires { OffsetsRise offsets.now }
     ensures { IfOk result (λ v. TellsRuns false v.items offsets.now) }
 {
     let mut runs = runs_of(alloc, offsets)?;

@@ -1,7 +1,7 @@
 -- Runs that grow by several offsets at a time.
 use Rattle.std.proofs.Common.{◌≡◌, ℕ, zero, suc, ◌+◌, ◌≤◌, pos, List, length, take, drop, ap, sym, subst, inl, inr, arith, ◌∙◌}
 use Rattle.std.proofs.lemmas.Bool.{cases_lt}
-use Rattle.mw_model.specs.declared.places.Offset.{Offset}
+use Rattle.mw_model.specs.declared.offsets.Offset.{Offset}
 use Rattle.mw_element_runs.specs.Ahead.{AllContinue}
 use Rattle.mw_element_runs.specs.Runs.{run_offsets, offset_at, Continues}
 use Rattle.mw_element_runs.proofs.RunLists.{run_more}

@@ -8,10 +8,10 @@ use Rattle.std.proofs.lemmas.Grind.{flat_map-append}
 use Rattle.std.proofs.Math.Seq.{take-add, get_or-append_seam}
 use Rattle.mw_model.proofs.mw_facts.Alls.{all-push, all-weaker}
 use Rattle.mw_model.proofs.mw_facts.Numbers.{add_one-add}
-use Rattle.mw_model.specs.declared.places.Offset.{Offset}
+use Rattle.mw_model.specs.declared.offsets.Offset.{Offset}
 use Rattle.mw_element_runs.specs.declared.runs.Run.{Run}
 use Rattle.mw_element_runs.specs.declared.runs.Extent.{Extent}
-use Rattle.mw_element_runs.specs.Runs.{run_offsets, offset_at, start_offset, Continues, AreLongest, IsInside, IsWider}
+use Rattle.mw_element_runs.specs.Runs.{run_offsets, offset_at, start_offset, Continues, AreLongest, RunIsInside, IsWider}
 
 map-range_more : {B : Type 0} (f : ℕ → B) (a n : ℕ) → map f (range_with_len a (suc n)) ≡ map f (range_with_len a n) ++ f (a + n) ∷ []
 map-range_more f a zero = ap (λ (t : ℕ). f t ∷ []) (same a)
@@ -49,7 +49,7 @@ runs_more offsets runs more run at to more-is to-is run-is so_far =
     ∙ sym (take-add at run.count offsets)
     ∙ ap (λ (t : ℕ). take t offsets) (sym to-is)
 
-pub inside_wider : (e o : Extent) → IsWider e o → (r : Run) → IsInside o r → IsInside e r
+pub inside_wider : (e o : Extent) → IsWider e o → (r : Run) → RunIsInside o r → RunIsInside e r
 inside_wider e o wider r inside = record {
   run = inside.run;
   left = omega (arith, ints, wider.left, inside.left);
@@ -59,9 +59,9 @@ inside_wider e o wider r inside = record {
 }
 
 -- one run more that lies in an extent
-pub inside_more : (e o : Extent) (runs : List Run) (i : ℕ) (d : Run) → i < length runs → IsWider e o → AllByRecursion (IsInside o) (take i runs) → IsInside e (get_or runs i d) → AllByRecursion (IsInside e) (take (i + 1) runs)
+pub inside_more : (e o : Extent) (runs : List Run) (i : ℕ) (d : Run) → i < length runs → IsWider e o → AllByRecursion (RunIsInside o) (take i runs) → RunIsInside e (get_or runs i d) → AllByRecursion (RunIsInside e) (take (i + 1) runs)
 inside_more e o runs i d lt wider so_far here =
-    rw (take_more runs i d lt) (all-push (IsInside e) (take i runs) (get_or runs i d) (all-weaker (IsInside o) (IsInside e) (take i runs) (inside_wider e o wider) so_far) here)
+    rw (take_more runs i d lt) (all-push (RunIsInside e) (take i runs) (get_or runs i d) (all-weaker (RunIsInside o) (RunIsInside e) (take i runs) (inside_wider e o wider) so_far) here)
 
 -- no run continues the one before it, also where the last one is new
 pub longest_more : (offsets : List Offset) (runs more : List Run) (run : Run) (at to : ℕ) → more ≡ runs ++ run ∷ [] → to ≡ at + run.count → at < length offsets

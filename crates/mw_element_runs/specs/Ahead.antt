@@ -1,6 +1,6 @@
 -- Offsets that continue a run, several at a time.
 use Rattle.std.specs.Prelude.{ℕ, ◌+◌, ◌<◌, List}
-use Rattle.mw_model.specs.declared.places.Offset.{Offset}
+use Rattle.mw_model.specs.declared.offsets.Offset.{Offset}
 use Rattle.mw_element_runs.specs.Runs.{offset_at, Continues}
 
 -- from so many offsets that begin at a place of the list, so many more continue the run

@@ -2,8 +2,8 @@
 use Rattle.std.specs.Prelude.{◌≡◌, ◌⊎◌, ℕ, Bool, cond, ◌+◌, ◌-◌, ◌*◌, ◌<◌, ◌≤◌, ◌&&◌, nat_le, nat_lt, if◌then◌else◌, slice_index_or, List, [], ◌∷◌, length, map, flat_map, reverse, count_by, nat_eq, pos, ◌+ℤ◌, ◌-ℤ◌, ◌≤ℤ◌}
 use Rattle.std.specs.Ordering.{int_eq}
 use Rattle.std.specs.List.{range_with_len, AllByRecursion}
-use Rattle.mw_model.specs.declared.places.Offset.{Offset}
-use Rattle.mw_model.specs.Places.{nonnegative}
+use Rattle.mw_model.specs.declared.offsets.Offset.{Offset}
+use Rattle.mw_model.specs.Rectangles.{nonnegative}
 use Rattle.mw_element_runs.specs.declared.runs.Run.{Run}
 use Rattle.mw_element_runs.specs.declared.runs.Extent.{Extent}
 
@@ -69,7 +69,7 @@ pub record IsWider (e o : Extent) : Type 0 where
   pub bottom : o.bottom ≤ℤ e.bottom
 
 -- the run lies in these columns and rows of offsets
-pub record IsInside (e : Extent) (r : Run) : Type 0 where
+pub record RunIsInside (e : Extent) (r : Run) : Type 0 where
   pub run : IsRun r
   pub left : e.left ≤ℤ r.dx
   pub right : (r.dx +ℤ pos r.count) ≤ℤ (e.right +ℤ pos 1)
@@ -81,8 +81,8 @@ abbrev pub start_of : Extent → ℕ → Run → ℕ
 start_of e wide r = nonnegative (r.dy -ℤ e.top) * wide + nonnegative (r.dx -ℤ e.left)
 
 -- the run lies in the extent, and in rows of `wide` places it reaches no further than `cells` places from `count` places on
-pub record HasRoom (e : Extent) (wide count cells : ℕ) (r : Run) : Type 0 where
-  pub inside : IsInside e r
+pub record RunHasRoom (e : Extent) (wide count cells : ℕ) (r : Run) : Type 0 where
+  pub inside : RunIsInside e r
   pub room : start_of e wide r + (r.count - 1) + count ≤ cells
 
 -- a step that is taken at the runs of `size` to `2 * size - 1` offsets

@@ -1,9 +1,9 @@
 //! Runs laid out around a tile: in rows of one length, from the first column and row of the element on.
 ghost use Rattle.std.specs.Prelude.{◌≡◌, ◌<◌, ◌≤◌, ◌^◌, pos, negsuc, ◌+ℤ◌, ◌-ℤ◌, ◌≤ℤ◌};
 ghost use Rattle.mw_model.specs.declared.limits.TheConstants.{FAR_LIMIT};
-ghost use Rattle.mw_model.specs.Places.{nonnegative};
+ghost use Rattle.mw_model.specs.Rectangles.{nonnegative};
 ghost use Rattle.mw_element_runs.specs.declared.runs.Run.{Run};
-ghost use Rattle.mw_element_runs.specs.Runs.{start_of, IsInside};
+ghost use Rattle.mw_element_runs.specs.Runs.{start_of, RunIsInside};
 
 use crate::runs::{Extent, Run};
 use mw_model::Rect;
@@ -18,7 +18,7 @@ fn places_from(first: i32, place: i16) -> usize
 
 /// Where a run begins in rows of `wide` places.
 pub fn start_of_run(run: Run, extent: Extent, wide: usize) -> usize
-    requires inside { IsInside extent run }
+    requires inside { RunIsInside extent run }
     requires fits { start_of extent wide run < 2 ^ 64 }
     ensures { result ≡ start_of extent wide run }
 {

@@ -7,12 +7,12 @@
 #![tactic(auto)]
 
 mod layout;
-mod places;
+mod offset_places;
 mod runs;
 mod sizes;
 
 pub use layout::{columns_after, first_column, first_row, rows_after, start_of_run};
 pub use mw_model::NoMemory;
-pub use places::place_of;
+pub use offset_places::place_of;
 pub use runs::{Extent, Run, extent_of, runs_either_way, runs_of};
 pub use sizes::{Sizes, counts_of};

@@ -1,10 +1,10 @@
 //! An element as horizontal runs, and the columns and rows that they take.
 ghost use Rattle.std.specs.Prelude.{◌≡◌, ℕ, ◌+◌, ◌*◌, ◌<◌, ◌≤◌, ◌^◌, ℤ, pos, ◌-ℤ◌, ◌+ℤ◌, ◌≤ℤ◌, length, take, drop, reverse, IsTrue, flat_map, IfOk, IfSome, IsSome, ◌↔◌};
 ghost use Rattle.std.specs.List.{AllByRecursion};
-ghost use Rattle.mw_model.specs.Places.{nonnegative};
+ghost use Rattle.mw_model.specs.Rectangles.{nonnegative};
 ghost use Rattle.mw_element_runs.specs.declared.runs.Extent.{Extent};
 ghost use Rattle.mw_element_runs.specs.Ahead.{AllContinue};
-ghost use Rattle.mw_element_runs.specs.Runs.{run_offsets, offset_at, start_offset, Continues, AreEitherWay, AreLongest, AreFewest, follows, follows_back, pairs, IsRun, IsInside, IsWider};
+ghost use Rattle.mw_element_runs.specs.Runs.{run_offsets, offset_at, start_offset, Continues, AreEitherWay, AreLongest, AreFewest, follows, follows_back, pairs, IsRun, RunIsInside, IsWider};
 
 use mw_model::{NoMemory, Offset};
 use std::alloc::Global;
@@ -216,8 +216,8 @@ pub fn runs_either_way(alloc: Global, offsets: &[Offset]) -> Result<Vec<Run>, No
 /// The extent of one run.
 fn extent_of_run(run: Run) -> Extent
     requires { IsRun run }
-    ensures inside { IsInside result run }
-    ensures least { (o : Extent) → IsInside o run → IsWider o result }
+    ensures inside { RunIsInside result run }
+    ensures least { (o : Extent) → RunIsInside o run → IsWider o result }
 {
     Extent {
         left: i32::from(run.dx),
@@ -261,8 +261,8 @@ fn joined(a: Extent, b: Extent) -> Extent
 pub fn extent_of(runs: &[Run]) -> Option<Extent>
     requires { AllByRecursion IsRun runs.now }
     ensures some { IsSome result ↔ (0 < length runs.now) }
-    ensures inside { IfSome result (λ e. AllByRecursion (IsInside e) runs.now) }
-    ensures least { IfSome result (λ e. (o : Extent) → AllByRecursion (IsInside o) runs.now → IsWider o e) }
+    ensures inside { IfSome result (λ e. AllByRecursion (RunIsInside e) runs.now) }
+    ensures least { IfSome result (λ e. (o : Extent) → AllByRecursion (RunIsInside o) runs.now → IsWider o e) }
 {
     if runs.len() == 0 {
         return None;

@@ -1,6 +1,6 @@
 -- What is dual by the complement.
 use Rattle.std.proofs.Common.{◌≡◌, ℕ, zero, suc, ◌-◌, ◌*◌, ◌<◌, ◌≤◌, List, length, max, refl, ap, arith, ◌∙◌}
-use Rattle.mw_model.specs.declared.places.Offset.{Offset}
+use Rattle.mw_model.specs.declared.offsets.Offset.{Offset}
 use Rattle.mw_model.specs.Pictures.{Picture, sample, IsPicture}
 use Rattle.mw_model.specs.Flat.{under, least, erosion, dilation, complement}
 use Rattle.mw_model.specs.Iterates.{times}

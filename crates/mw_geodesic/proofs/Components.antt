@@ -2,13 +2,13 @@
 use Rattle.std.proofs.Common.{◌≡◌, ℕ, zero, suc, ◌*◌, ◌<◌, ◌≤◌, List, [], ◌∷◌, max, pos, ◌+ℤ◌, refl, arith, ◌∙◌, inl, inr, true}
 use Rattle.std.specs.Prelude.{◌↔◌, ◌==◌, ◌&&◌, if◌then◌else◌}
 use Rattle.std.proofs.lemmas.Bool.{cases_lt, cases_Bool, and_parts, eqb-true, eq-eqb, and_from}
-use Rattle.mw_model.specs.declared.places.Offset.{Offset}
+use Rattle.mw_model.specs.declared.offsets.Offset.{Offset}
 use Rattle.mw_model.specs.Pictures.{Picture, sample, IsSet}
 use Rattle.mw_model.specs.Flat.{under, greatest}
 use Rattle.mw_model.proofs.Covers.{in_frame, outside, seen}
 use Rattle.mw_model.proofs.ImagePlaces.{sample-redrawn, same_picture, shape_sym, shape_trans, sample_bounded}
 use Rattle.mw_geodesic.specs.Geodesics.{reconstruction}
-use Rattle.mw_geodesic.specs.Places.{IsPlace, Covers, IsSymmetric}
+use Rattle.mw_geodesic.specs.Neighbours.{IsPlace, ElementCovers, IsSymmetric}
 use Rattle.mw_geodesic.specs.Components.{component}
 use Rattle.mw_geodesic.specs.Paths.{Joined, ends, goes, point, AreConnected}
 use Rattle.mw_geodesic.proofs.Reconstructed.{rebuilt_size}
@@ -20,7 +20,7 @@ pub record Source (f : Picture) (e : List Offset) (x y k : ℕ) : Type 0 where
   pub v : ℕ
   pub column : u < f.width
   pub row : v < f.height
-  pub covers : Covers e x y u v
+  pub covers : ElementCovers e x y u v
   pub high : k ≤ sample f u v
 
 source : (f : Picture) (e : List Offset) (x y k : ℕ) → 1 ≤ k → k ≤ greatest (under f e x y) → Source f e x y k

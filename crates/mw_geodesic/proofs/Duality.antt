@@ -1,6 +1,6 @@
 -- Reconstruction by erosion is reconstruction by dilation of the complements.
 use Rattle.std.proofs.Common.{◌≡◌, ℕ, zero, suc, ◌+◌, ◌-◌, ◌*◌, ◌<◌, List, length, min, max, refl, sym, arith, ◌∙◌}
-use Rattle.mw_model.specs.declared.places.Offset.{Offset}
+use Rattle.mw_model.specs.declared.offsets.Offset.{Offset}
 use Rattle.mw_model.specs.Pictures.{Picture, sample, IsPicture}
 use Rattle.mw_model.specs.Flat.{under, least, greatest, erosion, complement}
 use Rattle.mw_model.specs.Iterates.{times, union}

@@ -3,7 +3,7 @@ use Rattle.std.proofs.Common.{◌≡◌, ℕ, zero, suc, ◌+◌, ◌*◌, ◌<�
 use Rattle.std.specs.Prelude.{count_by, nat_le}
 use Rattle.std.proofs.lemmas.Bool.{cases_lt, le-leb, lt-leb}
 use Rattle.std.proofs.lemmas.List.Sums.{sum_by-cons, count_by-le-length}
-use Rattle.mw_model.specs.declared.places.Offset.{Offset}
+use Rattle.mw_model.specs.declared.offsets.Offset.{Offset}
 use Rattle.mw_model.specs.Pictures.{Picture, sample}
 use Rattle.mw_model.specs.Flat.{under, greatest, dilation}
 use Rattle.mw_model.specs.Iterates.{times, union}
@@ -12,13 +12,13 @@ use Rattle.mw_model.proofs.ImagePlaces.{sample-redrawn, same_picture, redrawn_sh
 use Rattle.std.proofs.lemmas.Nat.{mul-add-lt}
 use Rattle.std.proofs.Math.Nat.{mul_comm}
 use Rattle.mw_model.proofs.ImageOrder.{sample-dilation}
-use Rattle.mw_geodesic.specs.Places.{Covers}
+use Rattle.mw_geodesic.specs.Neighbours.{ElementCovers}
 use Rattle.mw_geodesic.proofs.Covered.{below_greatest, greatest_below}
 use Rattle.mw_geodesic.specs.Geodesics.{meet, geodesic_dilation, reconstruction}
 
 -- what no place can be raised by any more
 pub record IsClosed (e : List Offset) (mask h : Picture) : Type 0 where
-  pub closed : (x y u v : ℕ) → x < h.width → y < h.height → u < h.width → v < h.height → Covers e x y u v → min (sample h u v) (sample mask x y) ≤ sample h x y
+  pub closed : (x y u v : ℕ) → x < h.width → y < h.height → u < h.width → v < h.height → ElementCovers e x y u v → min (sample h u v) (sample mask x y) ≤ sample h x y
 
 pub sample-meet : (f g : Picture) (x y : ℕ) → x < f.width → y < f.height → sample (meet f g) x y ≡ min (sample f x y) (sample g x y)
 sample-meet f g x y p q = sample-redrawn f (λ x y. min (sample f x y) (sample g x y)) x y p q
@@ -32,7 +32,7 @@ sample-step e mask f x y p q =
     omega arith
 
 -- the greatest under an element, cut to a bound
-pub greatest_cut : (f : Picture) (e : List Offset) (x y m t : ℕ) → ((u v : ℕ) → u < f.width → v < f.height → Covers e x y u v → min (sample f u v) m ≤ t)
+pub greatest_cut : (f : Picture) (e : List Offset) (x y m t : ℕ) → ((u v : ℕ) → u < f.width → v < f.height → ElementCovers e x y u v → min (sample f u v) m ≤ t)
     → min (greatest (under f e x y)) m ≤ t
 greatest_cut f e x y m t each =
     elim (cases_lt t m) [

@@ -5,14 +5,14 @@ use Rattle.std.specs.List.{range_with_len}
 use Rattle.std.proofs.lemmas.Bool.{cases_lt, cases_eq, and_from, eq-eqb, ne_eqb, le-leb, lt-leb}
 use Rattle.std.proofs.lemmas.List.Sums.{sum_by-cons}
 use Rattle.mw_model.specs.declared.shapes.Kind.TheVariants.{Bit}
-use Rattle.mw_model.specs.declared.places.Offset.{Offset}
+use Rattle.mw_model.specs.declared.offsets.Offset.{Offset}
 use Rattle.mw_model.specs.Pictures.{Picture, sample, redrawn, IsSet}
 use Rattle.mw_model.specs.Flat.{greatest, threshold}
 use Rattle.mw_model.specs.Laws.{Below, SameShape}
 use Rattle.mw_model.proofs.ImagePlaces.{sample-drawn, sample-redrawn, sample_bounded, drawn_same, same_picture, shape_sym, shape_trans, length-rows, by_places}
 use Rattle.mw_model.proofs.ImageLaws.{drawn_picture}
 use Rattle.mw_model.proofs.Iterated.{sum_below}
-use Rattle.mw_geodesic.specs.Places.{IsPlace, IsSymmetric}
+use Rattle.mw_geodesic.specs.Neighbours.{IsPlace, IsSymmetric}
 use Rattle.mw_geodesic.specs.Geodesics.{reconstruction}
 use Rattle.mw_geodesic.specs.Paths.{point}
 use Rattle.mw_geodesic.specs.Components.{component, area, large_components, area_opening}

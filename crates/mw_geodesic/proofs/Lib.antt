@@ -9,7 +9,7 @@ mod Geodesic
 mod LargeComponents
 mod Markings
 mod Maxima
-mod Neighbours
+mod NeighbourLemmas
 mod OpeningLaws
 mod Opposites
 mod Raised

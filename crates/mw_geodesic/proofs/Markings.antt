@@ -6,12 +6,12 @@ use Rattle.std.proofs.lemmas.Nat.{mul-add-lt, same_from_place}
 use Rattle.std.proofs.lemmas.List.{get_or-set_same, get_or-set_other, length-set, drop_all, take_all}
 use Rattle.std.proofs.lemmas.List.Sums.{sum_by-set}
 use Rattle.std.proofs.Math.Nat.{mul_comm}
-use Rattle.mw_model.specs.declared.places.Offset.{Offset}
+use Rattle.mw_model.specs.declared.offsets.Offset.{Offset}
 use Rattle.mw_model.specs.Pictures.{Picture, sample, IsSet}
 use Rattle.mw_model.specs.Flat.{greatest}
 use Rattle.mw_model.proofs.ImagePlaces.{sample_bounded, by_places}
-use Rattle.mw_geodesic.specs.declared.places.Place.{Place}
-use Rattle.mw_geodesic.specs.Places.{IsPlace, Joins, Covers, IsSymmetric}
+use Rattle.mw_geodesic.specs.declared.neighbours.Place.{Place}
+use Rattle.mw_geodesic.specs.Neighbours.{IsPlace, Joins, ElementCovers, IsSymmetric}
 use Rattle.mw_geodesic.specs.Floods.{Has}
 use Rattle.mw_geodesic.specs.Paths.{ends, goes, AreConnected}
 use Rattle.mw_geodesic.specs.Labels.{label_at, IsLabelling}
@@ -46,11 +46,11 @@ pub record Marking (e : List Offset) (f : Picture) (n s t : ℕ) (old labels : L
   pub inside : (u v : ℕ) → Has queue u v → IsPlace f u v × (label_at f labels u v ≡ n) × (label_at f old u v ≡ 0)
 
 pub record MarkingWaits (e : List Offset) (f : Picture) (n : ℕ) (labels : List ℕ) (queue : List Place) : Type 0 where
-  pub waits : (x y u v : ℕ) → IsPlace f x y → IsPlace f u v → Covers e x y u v → label_at f labels u v ≡ n → sample f x y ≡ 1 → (label_at f labels x y ≢ 0) ⊎ Has queue u v
+  pub waits : (x y u v : ℕ) → IsPlace f x y → IsPlace f u v → ElementCovers e x y u v → label_at f labels u v ≡ n → sample f x y ≡ 1 → (label_at f labels x y ≢ 0) ⊎ Has queue u v
 
 pub record MarkingOthersWait (e : List Offset) (f : Picture) (n : ℕ) (labels : List ℕ) (queue : List Place) (q : Place) (i : ℕ) : Type 0 where
-  pub waits : (x y u v : ℕ) → IsPlace f x y → IsPlace f u v → Covers e x y u v → label_at f labels u v ≡ n → sample f x y ≡ 1
-      → (label_at f labels x y ≢ 0) ⊎ (Has queue u v ⊎ ((u ≡ q.x) × (v ≡ q.y) × Covers (drop i e) x y u v))
+  pub waits : (x y u v : ℕ) → IsPlace f x y → IsPlace f u v → ElementCovers e x y u v → label_at f labels u v ≡ n → sample f x y ≡ 1
+      → (label_at f labels x y ≢ 0) ⊎ (Has queue u v ⊎ ((u ≡ q.x) × (v ≡ q.y) × ElementCovers (drop i e) x y u v))
 
 pub mark_taken_out : (e : List Offset) (f : Picture) (n : ℕ) (labels : List ℕ) (q : Place) (rest : List Place) → MarkingWaits e f n labels (q ∷ rest) → MarkingOthersWait e f n labels rest q 0
 mark_taken_out e f n labels q rest all = record {
@@ -69,7 +69,7 @@ mark_all_offered e f n labels queue q i end others = record {
     | inl done ↦ inl done
     | inr more ↦ elim more [
       | inl has ↦ inr has
-      | inr left ↦ absurd (subst (λ (t : List Offset). Covers t x y u v) (drop_all i e end) left.2)
+      | inr left ↦ absurd (subst (λ (t : List Offset). ElementCovers t x y u v) (drop_all i e end) left.2)
     ]
   ];
 }

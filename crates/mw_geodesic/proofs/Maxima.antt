@@ -3,7 +3,7 @@ use Rattle.std.proofs.Common.{◌≡◌, ℕ, ◌-◌, ◌<◌, ◌≤◌, List,
 use Rattle.std.specs.Prelude.{◌↔◌, nat_le, if◌then◌else◌}
 use Rattle.std.proofs.lemmas.Bool.{cases_lt, le-leb, lt-leb}
 use Rattle.mw_model.specs.declared.shapes.Kind.TheVariants.{Bit}
-use Rattle.mw_model.specs.declared.places.Offset.{Offset}
+use Rattle.mw_model.specs.declared.offsets.Offset.{Offset}
 use Rattle.mw_model.specs.Pictures.{Picture, sample}
 use Rattle.mw_model.specs.Flat.{minus}
 use Rattle.mw_model.proofs.ImagePlaces.{sample-drawn, sample-redrawn}

@@ -1,6 +1,6 @@
 -- Openings by reconstruction.
 use Rattle.std.proofs.Common.{◌≡◌, ℕ, zero, suc, ◌+◌, ◌*◌, ◌<◌, ◌⊎◌, List, length, refl, ap, sym, subst, arith, ◌∙◌, inl, inr}
-use Rattle.mw_model.specs.declared.places.Offset.{Offset}
+use Rattle.mw_model.specs.declared.offsets.Offset.{Offset}
 use Rattle.mw_model.specs.Pictures.{Picture, sample, IsPicture}
 use Rattle.mw_model.specs.Flat.{under, least, erosion, dilation, reflected}
 use Rattle.mw_model.specs.Iterates.{times}
@@ -11,7 +11,7 @@ use Rattle.mw_model.proofs.Covers.{reflected-IsTurned, turned_back}
 use Rattle.mw_model.proofs.ImagePlaces.{sample_bounded, same_picture, shape_sym, shape_trans, below_itself, below_trans, length-rows}
 use Rattle.mw_model.proofs.ImageOrder.{IsBounded, sample-dilation, bounded_erosion, erosion_rises, below_erosion}
 use Rattle.mw_model.proofs.Iterated.{times_turn, eroded_shape, dilated_shape, bounded_dilated, opened, opened_shape, opened_below}
-use Rattle.mw_geodesic.specs.Places.{Covers, IsSymmetric}
+use Rattle.mw_geodesic.specs.Neighbours.{ElementCovers, IsSymmetric}
 use Rattle.mw_geodesic.specs.Geodesics.{reconstruction}
 use Rattle.mw_geodesic.specs.Reconstructions.{opening_by_reconstruction}
 use Rattle.mw_geodesic.proofs.Covered.{covers_to, covers_from}
@@ -89,7 +89,7 @@ again around b n f picture low =
 
 -- each place that it covers is covered by the element of connection, or is the place itself
 abbrev pub IsAmong : List Offset → List Offset → Type 0
-IsAmong around b = (x y u v : ℕ) → Covers b x y u v → Covers around x y u v ⊎ ((x ≡ u) × (y ≡ v))
+IsAmong around b = (x y u v : ℕ) → ElementCovers b x y u v → ElementCovers around x y u v ⊎ ((x ≡ u) × (y ≡ v))
 
 eroded_below : (b : List Offset) (n : ℕ) (f : Picture) → HoldsOrigin b → Below (eroded b n f) f
 eroded_below b zero f holds = below_itself f
@@ -97,7 +97,7 @@ eroded_below b (suc n) f holds =
     let e = eroded b n f in
     below_trans (erosion b e) e f (record { kind = refl; width = refl; height = refl; maxval = refl }) (erosion_falls b e holds) (eroded_below b n f holds)
 
--- the same erosions, j of them last
+-- so many erosions are the first k of them, and then j
 split : (b : List Offset) (j k : ℕ) (f : Picture) → eroded b (j + k) f ≡ eroded b j (eroded b k f)
 split b zero k f = ap (λ (i : ℕ). eroded b i f) (zero-add k)
 split b (suc j) k f = ap (λ (i : ℕ). eroded b i f) (suc-add j k) ∙ ap (erosion b) (split b j k f)

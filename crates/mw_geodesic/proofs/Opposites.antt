@@ -1,8 +1,8 @@
 -- Where an offset leads from.
 use Rattle.std.proofs.Common.{◌≡◌, ℕ, suc, ℤ, pos, negsuc, ◌+ℤ◌, ◌<◌, List, length, get_or, arith}
 use Rattle.std.proofs.lemmas.Int.{ints}
-use Rattle.mw_model.specs.declared.places.Offset.{Offset}
-use Rattle.mw_geodesic.specs.Places.{Joins, Covers, IsSymmetric}
+use Rattle.mw_model.specs.declared.offsets.Offset.{Offset}
+use Rattle.mw_geodesic.specs.Neighbours.{Joins, ElementCovers, IsSymmetric}
 use Rattle.mw_geodesic.proofs.Raised.{covers_at}
 
 -- two coordinates that a number leads between
@@ -16,7 +16,7 @@ between (pos k) = record { from = 0; to = k; is = omega (arith, ints) }
 between (negsuc k) = record { from = suc k; to = 0; is = omega (arith, ints) }
 
 -- An element that does not cover the way back of one of its offsets is not symmetric.
-pub one_way : (e : List Offset) (i : ℕ) (d : Offset) → i < length e → ((x y u v : ℕ) → Joins (get_or e i d) x y u v → Covers e u v x y → ⊥) → IsSymmetric e → ⊥
+pub one_way : (e : List Offset) (i : ℕ) (d : Offset) → i < length e → ((x y u v : ℕ) → Joins (get_or e i d) x y u v → ElementCovers e u v x y → ⊥) → IsSymmetric e → ⊥
 one_way e i d lt nowhere turns =
     let across = between (get_or e i d).dx in
     let down = between (get_or e i d).dy in

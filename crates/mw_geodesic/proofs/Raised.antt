@@ -9,12 +9,12 @@ use Rattle.std.proofs.lemmas.List.Elements.{All-set}
 use Rattle.std.proofs.lemmas.List.Sums.{sum_by-set, sum_by-le}
 use Rattle.std.proofs.Math.Seq.{drop-cons}
 use Rattle.std.proofs.Math.Nat.{mul_comm}
-use Rattle.mw_model.specs.declared.places.Offset.{Offset}
+use Rattle.mw_model.specs.declared.offsets.Offset.{Offset}
 use Rattle.mw_model.specs.Pictures.{Picture, sample, IsPicture}
 use Rattle.mw_model.specs.Laws.{SameShape}
 use Rattle.mw_model.proofs.ImagePlaces.{sample_bounded, redrawn_shape}
-use Rattle.mw_geodesic.specs.declared.places.Place.{Place}
-use Rattle.mw_geodesic.specs.Places.{Joins, Covers}
+use Rattle.mw_geodesic.specs.declared.neighbours.Place.{Place}
+use Rattle.mw_geodesic.specs.Neighbours.{Joins, ElementCovers}
 use Rattle.mw_geodesic.specs.Geodesics.{reconstruction}
 use Rattle.mw_geodesic.specs.Floods.{Gained, kept, gained, HasGrown, QueuedIfNeeded, left_out, put_in, with_sample, OfferMade, refused, taken, Has, IsPartlyRebuilt, StaysBetween, AllWait, HasNothing}
 use Rattle.mw_geodesic.proofs.Geodesic.{start, spread_shape, spread_above, reconstruction_closed, only_reconstruction}
@@ -38,18 +38,18 @@ has_split (q ∷ qs) p u v (inr h) = elim (has_split qs p u v h) [ inl g ↦ inl
 
 -- ---- offsets
 
-pub covers_first : (e : List Offset) (i : ℕ) (d : Offset) (x y u v : ℕ) → i < length e → Covers (drop i e) x y u v → Joins (get_or e i d) x y u v ⊎ Covers (drop (i + 1) e) x y u v
+pub covers_first : (e : List Offset) (i : ℕ) (d : Offset) (x y u v : ℕ) → i < length e → ElementCovers (drop i e) x y u v → Joins (get_or e i d) x y u v ⊎ ElementCovers (drop (i + 1) e) x y u v
 covers_first e i d x y u v lt c =
     let whole : drop i e ≡ get_or e i d ∷ drop (suc i) e = drop-cons e i d lt in
     let one : suc i ≡ i + 1 = omega arith in
     let next : drop (suc i) e ≡ drop (i + 1) e = ap (λ (k : ℕ). drop k e) one in
-    let here : Covers (get_or e i d ∷ drop (i + 1) e) x y u v = subst (λ (t : List Offset). Covers t x y u v) (whole ∙ ap (λ (t : List Offset). get_or e i d ∷ t) next) c in
+    let here : ElementCovers (get_or e i d ∷ drop (i + 1) e) x y u v = subst (λ (t : List Offset). ElementCovers t x y u v) (whole ∙ ap (λ (t : List Offset). get_or e i d ∷ t) next) c in
     elim here [
       | inl j ↦ inl j
       | inr rest ↦ inr rest
     ]
 
-pub covers_at : (e : List Offset) (i : ℕ) (d : Offset) (x y u v : ℕ) → i < length e → Joins (get_or e i d) x y u v → Covers e x y u v
+pub covers_at : (e : List Offset) (i : ℕ) (d : Offset) (x y u v : ℕ) → i < length e → Joins (get_or e i d) x y u v → ElementCovers e x y u v
 covers_at [] i d x y u v lt j = absurd (omega arith)
 covers_at (b ∷ bs) zero d x y u v lt j = inl j
 covers_at (b ∷ bs) (suc i) d x y u v lt j = inr (covers_at bs i d x y u v (omega arith) j)
@@ -76,7 +76,7 @@ set_other f x y s u v p p' other =
     let one = same_from_place v u y x f.width p' p e in
     other (one.1, one.0))
 
--- the same place, or another
+-- two places are one, or not
 pub cases_place : (u v x y : ℕ) → ((u ≡ x) × (v ≡ y)) ⊎ ((u ≡ x) × (v ≡ y) → ⊥)
 cases_place u v x y =
     elim (cases_eq u x) [
@@ -95,11 +95,11 @@ set_picture f x y s picture low = record {
 
 -- ---- what holds throughout
 
--- the same but for one place, which has still to offer by the offsets from number i on
+-- all places wait but for one, which has still to offer by the offsets from number i on
 pub record OthersWait (e : List Offset) (mask f : Picture) (queue : List Place) (q : Place) (i : ℕ) : Type 0 where
   pub inside : (u v : ℕ) → Has queue u v → (u < f.width) × (v < f.height)
-  pub waits : (x y u v : ℕ) → x < f.width → y < f.height → u < f.width → v < f.height → Covers e x y u v
-      → (min (sample f u v) (sample mask x y) ≤ sample f x y) ⊎ (Has queue u v ⊎ ((u ≡ q.x) × (v ≡ q.y) × Covers (drop i e) x y u v))
+  pub waits : (x y u v : ℕ) → x < f.width → y < f.height → u < f.width → v < f.height → ElementCovers e x y u v
+      → (min (sample f u v) (sample mask x y) ≤ sample f x y) ⊎ (Has queue u v ⊎ ((u ≡ q.x) × (v ≡ q.y) × ElementCovers (drop i e) x y u v))
 
 pub taken_out : (e : List Offset) (mask f : Picture) (q : Place) (rest : List Place) → AllWait e mask f (q ∷ rest) → OthersWait e mask f rest q 0
 taken_out e mask f q rest all = record {
@@ -120,7 +120,7 @@ all_offered e mask f queue q i end others = record {
     | inl done ↦ inl done
     | inr more ↦ elim more [
       | inl has ↦ inr has
-      | inr left ↦ absurd (subst (λ (t : List Offset). Covers t x y u v) (drop_all i e end) left.2)
+      | inr left ↦ absurd (subst (λ (t : List Offset). ElementCovers t x y u v) (drop_all i e end) left.2)
     ]
   ];
 }
@@ -198,7 +198,7 @@ one_offered e mask f queue q i d g after lt picture others (taken p behind gains
     mask_is x y col row = rw (col, row) refl
 
 -- A sample raised to what a place that the element covers, and its own mask, allow.
-pub raised_between : (e : List Offset) (mask f : Picture) (x y u v : ℕ) → x < f.width → y < f.height → u < f.width → v < f.height → Covers e x y u v
+pub raised_between : (e : List Offset) (mask f : Picture) (x y u v : ℕ) → x < f.width → y < f.height → u < f.width → v < f.height → ElementCovers e x y u v
     → sample f x y < min (sample f u v) (sample mask x y) → StaysBetween e mask f (with_sample f x y (min (sample f u v) (sample mask x y)))
 raised_between e mask f px py qx qy c r c' r' covers gains marker between =
     let s = min (sample f qx qy) (sample mask px py) in
@@ -286,7 +286,7 @@ flood_ended e mask marker f queue none between all =
 -- the place has nothing to offer by the offsets before number i
 abbrev pub NothingBefore : List Offset → ℕ → Picture → Picture → ℕ → ℕ → Type 0
 NothingBefore e i mask f u v =
-    (x y : ℕ) → x < f.width → y < f.height → Covers e x y u v → (min (sample f u v) (sample mask x y) ≤ sample f x y) ⊎ Covers (drop i e) x y u v
+    (x y : ℕ) → x < f.width → y < f.height → ElementCovers e x y u v → (min (sample f u v) (sample mask x y) ≤ sample f x y) ⊎ ElementCovers (drop i e) x y u v
 
 pub nothing_by_one_more : (e : List Offset) (i : ℕ) (d : Offset) (mask f : Picture) (u v : ℕ) → i < length e → NothingBefore e i mask f u v
     → ((x y : ℕ) → x < f.width → y < f.height → Joins (get_or e i d) x y u v → min (sample f u v) (sample mask x y) ≤ sample f x y) → NothingBefore e (i + 1) mask f u v
@@ -303,7 +303,7 @@ pub nothing_at_all : (e : List Offset) (i : ℕ) (mask f : Picture) (u v : ℕ) 
 nothing_at_all e i mask f u v end before x y a b covers =
     elim (before x y a b covers) [
       | inl done ↦ done
-      | inr left ↦ absurd (subst (λ (t : List Offset). Covers t x y u v) (drop_all i e end) left)
+      | inr left ↦ absurd (subst (λ (t : List Offset). ElementCovers t x y u v) (drop_all i e end) left)
     ]
 
 -- ---- sweeps

@@ -1,6 +1,6 @@
 -- Laws of reconstruction: it rises with its marker and its mask, and done again it changes nothing.
 use Rattle.std.proofs.Common.{◌≡◌, ℕ, ◌*◌, List, length, refl, sym, arith, ◌∙◌}
-use Rattle.mw_model.specs.declared.places.Offset.{Offset}
+use Rattle.mw_model.specs.declared.offsets.Offset.{Offset}
 use Rattle.mw_model.specs.Pictures.{Picture}
 use Rattle.mw_model.specs.Laws.{Below, SameShape}
 use Rattle.mw_model.proofs.ImagePlaces.{shape_sym, shape_trans}

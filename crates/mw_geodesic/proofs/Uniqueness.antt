@@ -4,11 +4,11 @@ use Rattle.std.proofs.lemmas.Bool.{cases_lt, cases_eq}
 use Rattle.std.proofs.lemmas.List.{ext_get_or}
 use Rattle.std.proofs.lemmas.Nat.{mul-add-lt}
 use Rattle.std.proofs.Math.Nat.{mul_comm}
-use Rattle.mw_model.specs.declared.places.Offset.{Offset}
+use Rattle.mw_model.specs.declared.offsets.Offset.{Offset}
 use Rattle.mw_model.specs.Pictures.{Picture, sample, IsSet}
 use Rattle.mw_model.specs.Flat.{greatest}
 use Rattle.mw_model.proofs.ImagePlaces.{sample_bounded}
-use Rattle.mw_geodesic.specs.Places.{IsPlace}
+use Rattle.mw_geodesic.specs.Neighbours.{IsPlace}
 use Rattle.mw_geodesic.specs.Labels.{label_at, IsLabelling}
 use Rattle.mw_geodesic.proofs.Markings.{greatest_more, same_front, place_of}
 

@@ -1,7 +1,7 @@
 -- The connected components of a set and their areas, after Soille, Morphological Image Analysis, chapters 2 and 8, and Vincent 1993.
 use Rattle.std.specs.Prelude.{ℕ, ◌*◌, ◌/◌, ◌%◌, ◌&&◌, ◌==◌, List, map, filter, sum, nat_le, if◌then◌else◌, slice_index}
 use Rattle.std.specs.List.{range_with_len, list_any, position_or_len}
-use Rattle.mw_model.specs.declared.places.Offset.{Offset}
+use Rattle.mw_model.specs.declared.offsets.Offset.{Offset}
 use Rattle.mw_model.specs.Pictures.{Picture, sample, redrawn}
 use Rattle.mw_model.specs.Flat.{least, greatest, threshold, complement}
 use Rattle.mw_geodesic.specs.Geodesics.{reconstruction}

@@ -1,7 +1,7 @@
 -- Distances of the places of a set to what is not in it, after Soille, Morphological Image Analysis, chapter 2.
 use Rattle.std.specs.Prelude.{ℕ, ◌+◌, ◌-◌, ◌*◌, ◌==◌, List, map, flat_map, filter, count_by}
 use Rattle.std.specs.List.{range_with_len}
-use Rattle.mw_model.specs.declared.places.Offset.{Offset}
+use Rattle.mw_model.specs.declared.offsets.Offset.{Offset}
 use Rattle.mw_model.specs.declared.shapes.Kind.TheVariants.{Grey}
 use Rattle.mw_model.specs.Pictures.{Picture, sample, drawn}
 use Rattle.mw_model.specs.Flat.{erosion, least}

@@ -1,6 +1,6 @@
 -- Extrema of an image, after Soille, Morphological Image Analysis, chapter 6, and Vincent 1993. The element "around" tells what hangs together.
 use Rattle.std.specs.Prelude.{ℕ, ◌+◌, ◌-◌, List, min}
-use Rattle.mw_model.specs.declared.places.Offset.{Offset}
+use Rattle.mw_model.specs.declared.offsets.Offset.{Offset}
 use Rattle.mw_model.specs.Pictures.{Picture, sample, redrawn}
 use Rattle.mw_model.specs.Flat.{minus, threshold}
 use Rattle.mw_geodesic.specs.Geodesics.{reconstruction, reconstruction_by_erosion}

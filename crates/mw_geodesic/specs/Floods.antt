@@ -1,11 +1,11 @@
 -- How a flood goes on (Vincent 1993): samples are raised one at a time, and each place that was raised waits in a queue.
 use Rattle.std.specs.Prelude.{◌≡◌, ℕ, ◌+◌, ◌*◌, ◌<◌, ◌≤◌, ◌⊎◌, List, [], ◌∷◌, ◌++◌, min, slice_set}
-use Rattle.mw_model.specs.declared.places.Offset.{Offset}
+use Rattle.mw_model.specs.declared.offsets.Offset.{Offset}
 use Rattle.mw_model.specs.Pictures.{Picture, picture, sample, IsPicture}
 use Rattle.mw_model.specs.Laws.{Below, SameShape}
-use Rattle.mw_geodesic.specs.Places.{Joins, Covers}
+use Rattle.mw_geodesic.specs.Neighbours.{Joins, ElementCovers}
 use Rattle.mw_geodesic.specs.Geodesics.{meet, reconstruction}
-use Rattle.mw_geodesic.specs.declared.places.Place.{Place}
+use Rattle.mw_geodesic.specs.declared.neighbours.Place.{Place}
 
 -- the image with another sample in column x of row y
 abbrev pub with_sample : Picture → ℕ → ℕ → ℕ → Picture
@@ -51,7 +51,7 @@ pub record IsPartlyRebuilt (e : List Offset) (mask marker f : Picture) : Type 0 
 abbrev pub StaysBetween : List Offset → Picture → Picture → Picture → Type 0
 StaysBetween e mask f g = (marker : Picture) → IsPartlyRebuilt e mask marker f → IsPartlyRebuilt e mask marker g
 
--- the same of two images of one size that can be taken for images
+-- the second image stays between as the first does, has its size, and can be taken for an image
 pub record HasGrown (e : List Offset) (mask f g : Picture) : Type 0 where
   pub stays : StaysBetween e mask f g
   pub picture : IsPicture g
@@ -61,14 +61,14 @@ pub record HasGrown (e : List Offset) (mask f g : Picture) : Type 0 where
 -- whatever a place has to offer, it is taken already, or the place waits
 pub record AllWait (e : List Offset) (mask f : Picture) (queue : List Place) : Type 0 where
   pub inside : (u v : ℕ) → Has queue u v → (u < f.width) × (v < f.height)
-  pub waits : (x y u v : ℕ) → x < f.width → y < f.height → u < f.width → v < f.height → Covers e x y u v
+  pub waits : (x y u v : ℕ) → x < f.width → y < f.height → u < f.width → v < f.height → ElementCovers e x y u v
       → (min (sample f u v) (sample mask x y) ≤ sample f x y) ⊎ Has queue u v
 
 -- the place has nothing to offer
 abbrev pub HasNothing : List Offset → Picture → Picture → ℕ → ℕ → Type 0
-HasNothing e mask f u v = (x y : ℕ) → x < f.width → y < f.height → Covers e x y u v → min (sample f u v) (sample mask x y) ≤ sample f x y
+HasNothing e mask f u v = (x y : ℕ) → x < f.width → y < f.height → ElementCovers e x y u v → min (sample f u v) (sample mask x y) ≤ sample f x y
 
--- the same by one offset
+-- the place has nothing to offer by one offset
 abbrev pub HasNothingBy : Offset → Picture → Picture → ℕ → ℕ → Type 0
 HasNothingBy b mask f u v = (x y : ℕ) → x < f.width → y < f.height → Joins b x y u v → min (sample f u v) (sample mask x y) ≤ sample f x y
 

@@ -1,6 +1,6 @@
 -- Geodesic operators, after Soille, Morphological Image Analysis, chapter 6, and Vincent 1993.
 use Rattle.std.specs.Prelude.{◌*◌, List, min}
-use Rattle.mw_model.specs.declared.places.Offset.{Offset}
+use Rattle.mw_model.specs.declared.offsets.Offset.{Offset}
 use Rattle.mw_model.specs.Pictures.{Picture, sample, redrawn}
 use Rattle.mw_model.specs.Flat.{erosion, dilation}
 use Rattle.mw_model.specs.Iterates.{times, union}

@@ -1,9 +1,9 @@
 -- Labels of a set, as a relation, after Soille, Morphological Image Analysis, chapter 2.
 use Rattle.std.specs.Prelude.{◌≡◌, ◌↔◌, ◌==◌, ℕ, ◌+◌, ◌*◌, ◌<◌, ◌≤◌, List, length, take, count_by, slice_index}
-use Rattle.mw_model.specs.declared.places.Offset.{Offset}
+use Rattle.mw_model.specs.declared.offsets.Offset.{Offset}
 use Rattle.mw_model.specs.Pictures.{Picture, sample}
 use Rattle.mw_model.specs.Flat.{greatest}
-use Rattle.mw_geodesic.specs.Places.{IsPlace}
+use Rattle.mw_geodesic.specs.Neighbours.{IsPlace}
 use Rattle.mw_geodesic.specs.Paths.{AreConnected}
 
 -- the label of a place

@@ -1,4 +1,4 @@
-pub mod Places
+pub mod Neighbours
 pub mod Geodesics
 pub mod Paths
 pub mod Reconstructions

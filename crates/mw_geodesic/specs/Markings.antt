@@ -1,9 +1,9 @@
 -- How labels are given: a place at a time, the components in the order of their first places.
 use Rattle.std.specs.Prelude.{◌≡◌, ◌≢◌, ℕ, ◌+◌, ◌*◌, ◌≤◌, List, [], ◌∷◌, ◌++◌, length, slice_set}
-use Rattle.mw_model.specs.declared.places.Offset.{Offset}
+use Rattle.mw_model.specs.declared.offsets.Offset.{Offset}
 use Rattle.mw_model.specs.Pictures.{Picture, sample}
-use Rattle.mw_geodesic.specs.declared.places.Place.{Place}
-use Rattle.mw_geodesic.specs.Places.{IsPlace, Joins}
+use Rattle.mw_geodesic.specs.declared.neighbours.Place.{Place}
+use Rattle.mw_geodesic.specs.Neighbours.{IsPlace, Joins}
 use Rattle.mw_geodesic.specs.Floods.{IsBehind}
 use Rattle.mw_geodesic.specs.Paths.{AreConnected}
 use Rattle.mw_geodesic.specs.Labels.{label_at}

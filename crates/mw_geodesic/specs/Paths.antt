@@ -1,13 +1,13 @@
 -- Paths within a level of the mask (Vincent 1993: threshold decomposition), and what connected means (Serra).
 use Rattle.std.specs.Prelude.{ℕ, ◌≤◌, List, ◌==◌, ◌&&◌, if◌then◌else◌}
-use Rattle.mw_model.specs.declared.places.Offset.{Offset}
+use Rattle.mw_model.specs.declared.offsets.Offset.{Offset}
 use Rattle.mw_model.specs.Pictures.{Picture, sample, redrawn}
-use Rattle.mw_geodesic.specs.Places.{IsPlace, Covers}
+use Rattle.mw_geodesic.specs.Neighbours.{IsPlace, ElementCovers}
 
 -- A path leads from the place to one where the marker is at level k or more, from each place to one that the element covers there, and the mask is at level k or more all along.
 pub data Joined (element : List Offset) (mask marker : Picture) (k : ℕ) : ℕ → ℕ → Type 0 where
   ends : (x y : ℕ) → IsPlace marker x y → k ≤ sample mask x y → k ≤ sample marker x y → Joined element mask marker k x y
-  goes : (x y u v : ℕ) → IsPlace marker x y → k ≤ sample mask x y → Covers element x y u v → Joined element mask marker k u v → Joined element mask marker k x y
+  goes : (x y u v : ℕ) → IsPlace marker x y → k ≤ sample mask x y → ElementCovers element x y u v → Joined element mask marker k u v → Joined element mask marker k x y
 
 -- the set of one place
 abbrev pub point : Picture → ℕ → ℕ → Picture

@@ -1,6 +1,6 @@
 -- What reconstruction from a marker of the image itself makes, after Soille, Morphological Image Analysis, chapter 6. The element "around" tells what hangs together, as the four or the eight neighbours.
 use Rattle.std.specs.Prelude.{ℕ, ◌+◌, ◌||◌, ◌==◌, Bool, List, if◌then◌else◌}
-use Rattle.mw_model.specs.declared.places.Offset.{Offset}
+use Rattle.mw_model.specs.declared.offsets.Offset.{Offset}
 use Rattle.mw_model.specs.Pictures.{Picture, sample, redrawn}
 use Rattle.mw_model.specs.Flat.{erosion, dilation, minus}
 use Rattle.mw_model.specs.Iterates.{times}

@@ -5,7 +5,7 @@ ghost use Rattle.mw_model.specs.Pictures.{sample, picture, IsPicture, IsSmallPic
 ghost use Rattle.mw_geodesic.specs.Floods.{with_sample};
 
 use mw_model::{Kind, NoMemory};
-use mw_reference::PlainImage;
+use mw_reference::ReferenceImage;
 use std::alloc::Global;
 use std::marker::Model;
 
@@ -31,7 +31,7 @@ impl Model for Canvas {
 
 impl Canvas {
     /// The canvas of an image.
-    pub fn of_image(alloc: Global, image: &PlainImage) -> Result<Canvas, NoMemory>
+    pub fn of_image(alloc: Global, image: &ReferenceImage) -> Result<Canvas, NoMemory>
         ensures is { IfOk result (λ r. r ≡ image.now) }
         ensures picture { IfOk result (λ r. IsPicture r) }
     {
@@ -51,10 +51,10 @@ impl Canvas {
     }
 
     /// The image that it shows.
-    pub fn into_image(self) -> PlainImage
+    pub fn into_image(self) -> ReferenceImage
         ensures { result ≡ self }
     {
-        PlainImage::new(
+        ReferenceImage::new(
             self.kind,
             self.width,
             self.height,

@@ -5,7 +5,7 @@ ghost use Rattle.mw_model.specs.Pictures.{redrawn, IsPicture};
 
 use crate::canvas::Canvas;
 use mw_model::NoMemory;
-use mw_reference::PlainImage;
+use mw_reference::ReferenceImage;
 use std::alloc::Global;
 
 /// A sample for each place.
@@ -20,9 +20,9 @@ pub trait Drawing {
 /// The image with these samples, of the kind, size and maxval of another.
 pub fn redraw<D: Drawing>(
     alloc: Global,
-    like: &PlainImage,
+    like: &ReferenceImage,
     drawing: &D,
-) -> Result<PlainImage, NoMemory>
+) -> Result<ReferenceImage, NoMemory>
     requires bounded { IsPicture like.now → (x y : ℕ) → x < like.now.width → y < like.now.height → D.value drawing.now x y ≤ like.now.maxval }
     ensures { IfOk result (λ r. r ≡ redrawn like.now (D.value drawing.now)) }
 {

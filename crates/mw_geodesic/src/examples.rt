@@ -2,7 +2,7 @@
 
 ghost use Rattle.std.specs.Prelude.{◌≡◌, ◌∷◌, []};
 ghost use Rattle.mw_geodesic.specs.Examples.{row_of_levels, row_of_set, three_rows, left_and_right, bar, gapped, two_places};
-ghost use Rattle.mw_geodesic.specs.Places.{four_neighbours};
+ghost use Rattle.mw_geodesic.specs.Neighbours.{four_neighbours};
 ghost use Rattle.mw_geodesic.specs.Geodesics.{geodesic_dilation, geodesic_erosion, reconstruction, reconstruction_by_erosion};
 ghost use Rattle.mw_geodesic.specs.Reconstructions.{opening_by_reconstruction, closing_by_reconstruction, holes_filled, border_cleared};
 ghost use Rattle.mw_geodesic.specs.Extrema.{h_maxima, h_minima, regional_maxima, regional_minima};

@@ -8,12 +8,12 @@ use crate::drawings::{Drawing, redraw};
 use crate::flood::reconstruction;
 use crate::reconstructions::reconstruction_by_erosion;
 use mw_model::{NoMemory, Offset};
-use mw_reference::{PlainImage, minus, threshold};
+use mw_reference::{ReferenceImage, minus, threshold};
 use std::alloc::Global;
 
 #[derive(Drop)]
 struct Lowered<'a> {
-    image: &'a PlainImage,
+    image: &'a ReferenceImage,
     h: u16,
 }
 
@@ -27,7 +27,7 @@ impl Drawing for Lowered<'_> {
 
 #[derive(Drop)]
 struct Raised<'a> {
-    image: &'a PlainImage,
+    image: &'a ReferenceImage,
     h: u16,
 }
 
@@ -41,14 +41,14 @@ impl Drawing for Raised<'_> {
 }
 
 /// Each sample less h, stopping at 0.
-fn lowered_by(alloc: Global, image: &PlainImage, h: u16) -> Result<PlainImage, NoMemory>
+fn lowered_by(alloc: Global, image: &ReferenceImage, h: u16) -> Result<ReferenceImage, NoMemory>
     ensures { IfOk result (λ r. r ≡ lowered_by h image.now) }
 {
     redraw(alloc, image, &Lowered { image, h })
 }
 
 /// Each sample and h, stopping at the maxval.
-fn raised_by(alloc: Global, image: &PlainImage, h: u16) -> Result<PlainImage, NoMemory>
+fn raised_by(alloc: Global, image: &ReferenceImage, h: u16) -> Result<ReferenceImage, NoMemory>
     ensures { IfOk result (λ r. r ≡ raised_by h image.now) }
 {
     redraw(alloc, image, &Raised { image, h })
@@ -57,10 +57,10 @@ fn raised_by(alloc: Global, image: &PlainImage, h: u16) -> Result<PlainImage, No
 /// The image with h cut off each of its domes.
 pub fn h_maxima(
     alloc: Global,
-    image: &PlainImage,
+    image: &ReferenceImage,
     h: u16,
     around: &[Offset],
-) -> Result<PlainImage, NoMemory>
+) -> Result<ReferenceImage, NoMemory>
     ensures { IfOk result (λ r. r ≡ h_maxima around.now h image.now) }
 {
     let marker = lowered_by(alloc, image, h)?;
@@ -70,10 +70,10 @@ pub fn h_maxima(
 /// The image with each of its basins filled up by h.
 pub fn h_minima(
     alloc: Global,
-    image: &PlainImage,
+    image: &ReferenceImage,
     h: u16,
     around: &[Offset],
-) -> Result<PlainImage, NoMemory>
+) -> Result<ReferenceImage, NoMemory>
     ensures { IfOk result (λ r. r ≡ h_minima around.now h image.now) }
 {
     let marker = raised_by(alloc, image, h)?;
@@ -83,9 +83,9 @@ pub fn h_minima(
 /// The plateaus of a level over 0 that have no higher neighbour.
 pub fn regional_maxima(
     alloc: Global,
-    image: &PlainImage,
+    image: &ReferenceImage,
     around: &[Offset],
-) -> Result<PlainImage, NoMemory>
+) -> Result<ReferenceImage, NoMemory>
     ensures { IfOk result (λ r. r ≡ regional_maxima around.now image.now) }
 {
     let cut = h_maxima(alloc, image, 1, around)?;
@@ -96,9 +96,9 @@ pub fn regional_maxima(
 /// The plateaus of a level under the maxval that have no lower neighbour.
 pub fn regional_minima(
     alloc: Global,
-    image: &PlainImage,
+    image: &ReferenceImage,
     around: &[Offset],
-) -> Result<PlainImage, NoMemory>
+) -> Result<ReferenceImage, NoMemory>
     ensures { IfOk result (λ r. r ≡ regional_minima around.now image.now) }
 {
     let filled_up = h_minima(alloc, image, 1, around)?;

@@ -7,14 +7,18 @@ ghost use Rattle.mw_geodesic.specs.Geodesics.{reconstruction, meet};
 ghost use Rattle.mw_geodesic.specs.Floods.{OfferMade, AllWait, HasNothing, HasNothingBy, QueuedIfNeeded, Gained, HasGrown};
 
 use crate::canvas::Canvas;
-use crate::places::{Place, ahead, behind};
+use crate::neighbours::{Place, ahead, behind};
 use mw_model::{NoMemory, Offset};
-use mw_reference::{PlainImage, minus};
+use mw_reference::{ReferenceImage, minus};
 use std::alloc::Global;
 use std::collections::VecDeque;
 
 /// The marker, cut to the mask: what is left of it where what is over the mask is taken away.
-fn meet(alloc: Global, marker: &PlainImage, mask: &PlainImage) -> Result<PlainImage, NoMemory>
+fn meet(
+    alloc: Global,
+    marker: &ReferenceImage,
+    mask: &ReferenceImage,
+) -> Result<ReferenceImage, NoMemory>
     ensures { IfOk result (λ r. r ≡ meet marker.now mask.now) }
 {
     let over = minus(alloc, marker, mask)?;
@@ -22,7 +26,7 @@ fn meet(alloc: Global, marker: &PlainImage, mask: &PlainImage) -> Result<PlainIm
 }
 
 /// Raises one sample to what stands where the offset leads, within the mask.
-fn gain_by(canvas: &mut Canvas, mask: &PlainImage, p: Place, b: Offset)
+fn gain_by(canvas: &mut Canvas, mask: &ReferenceImage, p: Place, b: Offset)
     requires picture { IsPicture canvas.old }
     requires column { p.x < canvas.old.width }
     requires row { p.y < canvas.old.height }
@@ -38,7 +42,7 @@ fn gain_by(canvas: &mut Canvas, mask: &PlainImage, p: Place, b: Offset)
 }
 
 /// Raises one sample to what the element lets it see, within the mask.
-fn gain(canvas: &mut Canvas, mask: &PlainImage, element: &[Offset], p: Place)
+fn gain(canvas: &mut Canvas, mask: &ReferenceImage, element: &[Offset], p: Place)
     requires picture { IsPicture canvas.old }
     requires column { p.x < canvas.old.width }
     requires row { p.y < canvas.old.height }
@@ -50,7 +54,7 @@ fn gain(canvas: &mut Canvas, mask: &PlainImage, element: &[Offset], p: Place)
 }
 
 /// Raises each sample, from the top left to the bottom right.
-fn sweep_down(canvas: &mut Canvas, mask: &PlainImage, element: &[Offset])
+fn sweep_down(canvas: &mut Canvas, mask: &ReferenceImage, element: &[Offset])
     requires { IsPicture canvas.old }
     ensures { HasGrown element.now mask.now canvas.old canvas.new }
 {
@@ -64,7 +68,7 @@ fn sweep_down(canvas: &mut Canvas, mask: &PlainImage, element: &[Offset])
 }
 
 /// Raises each sample, from the bottom right to the top left.
-fn sweep_up(canvas: &mut Canvas, mask: &PlainImage, element: &[Offset])
+fn sweep_up(canvas: &mut Canvas, mask: &ReferenceImage, element: &[Offset])
     requires { IsPicture canvas.old }
     ensures { HasGrown element.now mask.now canvas.old canvas.new }
 {
@@ -80,7 +84,7 @@ fn sweep_up(canvas: &mut Canvas, mask: &PlainImage, element: &[Offset])
 }
 
 /// Whether a place has something to offer by an offset.
-fn can_offer_by(canvas: &Canvas, mask: &PlainImage, q: Place, b: Offset) -> bool
+fn can_offer_by(canvas: &Canvas, mask: &ReferenceImage, q: Place, b: Offset) -> bool
     ensures { result ≡ false → HasNothingBy b mask.now canvas.now q.x q.y }
 {
     let Some(p) = behind(canvas.width(), canvas.height(), q, b) else {
@@ -90,7 +94,7 @@ fn can_offer_by(canvas: &Canvas, mask: &PlainImage, q: Place, b: Offset) -> bool
 }
 
 /// Whether a place has something to offer to one behind it.
-fn can_offer(canvas: &Canvas, mask: &PlainImage, element: &[Offset], q: Place) -> bool
+fn can_offer(canvas: &Canvas, mask: &ReferenceImage, element: &[Offset], q: Place) -> bool
     ensures { result ≡ false → HasNothing element.now mask.now canvas.now q.x q.y }
 {
     for i in 0..element.len() {
@@ -105,7 +109,7 @@ fn can_offer(canvas: &Canvas, mask: &PlainImage, element: &[Offset], q: Place) -
 fn wait_if_needed(
     queue: &mut VecDeque<Place>,
     canvas: &Canvas,
-    mask: &PlainImage,
+    mask: &ReferenceImage,
     element: &[Offset],
     q: Place,
 ) -> Result<(), NoMemory>
@@ -121,7 +125,7 @@ fn wait_if_needed(
 fn waiting(
     alloc: Global,
     canvas: &Canvas,
-    mask: &PlainImage,
+    mask: &ReferenceImage,
     element: &[Offset],
 ) -> Result<VecDeque<Place>, NoMemory>
     ensures { IfOk result (λ r. AllWait element.now mask.now canvas.now r.items) }
@@ -141,7 +145,7 @@ fn waiting(
 fn offer(
     canvas: &mut Canvas,
     queue: &mut VecDeque<Place>,
-    mask: &PlainImage,
+    mask: &ReferenceImage,
     q: Place,
     b: Offset,
 ) -> Result<(), NoMemory>
@@ -162,10 +166,10 @@ fn offer(
 /// The marker, cut to the mask, dilated within the mask until nothing changes.
 pub fn reconstruction(
     alloc: Global,
-    marker: &PlainImage,
-    mask: &PlainImage,
+    marker: &ReferenceImage,
+    mask: &ReferenceImage,
     element: &[Offset],
-) -> Result<PlainImage, NoMemory>
+) -> Result<ReferenceImage, NoMemory>
     requires { SameShape marker.now mask.now }
     ensures { IfOk result (λ r. r ≡ reconstruction element.now mask.now marker.now) }
 {

@@ -4,11 +4,11 @@ ghost use Rattle.std.specs.Prelude.{◌≡◌, ◌≢◌, ℕ, ◌*◌, ◌<◌,
 ghost use Rattle.mw_model.specs.Pictures.{sample, IsSet};
 ghost use Rattle.mw_geodesic.specs.Labels.{AreAreas, IsLabelling, label_at};
 ghost use Rattle.mw_geodesic.specs.Markings.{Marked, PartlyLabelled, Visited};
-ghost use Rattle.mw_geodesic.specs.Places.{IsPlace, IsSymmetric};
+ghost use Rattle.mw_geodesic.specs.Neighbours.{IsPlace, IsSymmetric};
 
-use crate::places::{Place, behind};
+use crate::neighbours::{Place, behind};
 use mw_model::{NoMemory, Offset};
-use mw_reference::PlainImage;
+use mw_reference::ReferenceImage;
 use std::alloc::Global;
 use std::collections::VecDeque;
 
@@ -16,7 +16,7 @@ use std::collections::VecDeque;
 fn mark_by(
     labels: &mut [u32],
     queue: &mut VecDeque<Place>,
-    set: &PlainImage,
+    set: &ReferenceImage,
     q: Place,
     b: Offset,
     n: u32,
@@ -42,7 +42,7 @@ fn mark_by(
 fn mark_component(
     alloc: Global,
     labels: &mut [u32],
-    set: &PlainImage,
+    set: &ReferenceImage,
     element: &[Offset],
     seed: Place,
     count: u32,
@@ -75,7 +75,7 @@ fn mark_component(
 fn visit(
     alloc: Global,
     labels: &mut [u32],
-    set: &PlainImage,
+    set: &ReferenceImage,
     element: &[Offset],
     p: Place,
     count: u32,
@@ -109,7 +109,7 @@ pub struct Labels {
 fn scan(
     alloc: Global,
     labels: &mut [u32],
-    set: &PlainImage,
+    set: &ReferenceImage,
     element: &[Offset],
 ) -> Result<u32, NoMemory>
     requires symmetric { IsSymmetric element.now }
@@ -130,7 +130,7 @@ fn scan(
 }
 
 /// The labels of the components of a set.
-pub fn labelled(alloc: Global, set: &PlainImage, element: &[Offset]) -> Result<Labels, NoMemory>
+pub fn labelled(alloc: Global, set: &ReferenceImage, element: &[Offset]) -> Result<Labels, NoMemory>
     requires symmetric { IsSymmetric element.now }
     requires set { IsSet set.now }
     ensures { IfOk result (λ r. IsLabelling element.now set.now r.count r.labels.items) }

@@ -1,12 +1,12 @@
 //! What holds of the operators. Each function is a law, and does nothing.
 
 ghost use Rattle.std.specs.Prelude.{◌≡◌, ◌↔◌, ◌⊎◌, ℕ, ◌<◌, ◌≤◌, List, true};
-ghost use Rattle.mw_model.specs.declared.places.Offset.{Offset};
+ghost use Rattle.mw_model.specs.declared.offsets.Offset.{Offset};
 ghost use Rattle.mw_model.specs.Pictures.{Picture, sample, IsPicture, IsSet};
 ghost use Rattle.mw_model.specs.Flat.{complement, reflected, erosion, dilation};
 ghost use Rattle.mw_model.specs.Iterates.{times};
 ghost use Rattle.mw_model.specs.Laws.{Below, SameShape, HoldsOrigin};
-ghost use Rattle.mw_geodesic.specs.Places.{Covers, IsSymmetric, four_neighbours, eight_neighbours};
+ghost use Rattle.mw_geodesic.specs.Neighbours.{ElementCovers, IsSymmetric, four_neighbours, eight_neighbours};
 ghost use Rattle.mw_geodesic.specs.Geodesics.{meet, geodesic_dilation, reconstruction, reconstruction_by_erosion};
 ghost use Rattle.mw_geodesic.specs.Paths.{Joined};
 ghost use Rattle.mw_geodesic.specs.Reconstructions.{opening_by_reconstruction, closing_by_reconstruction, at_border, holes_filled, border_cleared};
@@ -57,7 +57,7 @@ pub fn openings_by_reconstruction()
     ensures anti_extensive { (around b : List Offset) (n : ℕ) (f : Picture) → Below (opening_by_reconstruction around b n f) f }
     ensures increasing { (around b : List Offset) (n : ℕ) (f g : Picture) → SameShape f g → Below f g → Below (opening_by_reconstruction around b n f) (opening_by_reconstruction around b n g) }
     ensures idempotent { (around b : List Offset) (n : ℕ) (f : Picture) → IsPicture f → Below (times n (dilation (reflected b)) (times n (erosion b) f)) (opening_by_reconstruction around b n f) → opening_by_reconstruction around b n (opening_by_reconstruction around b n f) ≡ opening_by_reconstruction around b n f }
-    ensures by_neighbours { (around b : List Offset) (n : ℕ) (f : Picture) → IsSymmetric around → HoldsOrigin b → ((x y u v : ℕ) → Covers b x y u v → (Covers around x y u v ⊎ ((x ≡ u) × (y ≡ v)))) → IsPicture f → opening_by_reconstruction around b n (opening_by_reconstruction around b n f) ≡ opening_by_reconstruction around b n f }
+    ensures by_neighbours { (around b : List Offset) (n : ℕ) (f : Picture) → IsSymmetric around → HoldsOrigin b → ((x y u v : ℕ) → ElementCovers b x y u v → (ElementCovers around x y u v ⊎ ((x ≡ u) × (y ≡ v)))) → IsPicture f → opening_by_reconstruction around b n (opening_by_reconstruction around b n f) ≡ opening_by_reconstruction around b n f }
 {}
 
 /// Filling is extensive, changes nothing at the border, and is idempotent.

@@ -19,8 +19,8 @@ mod extrema;
 mod flood;
 mod labels;
 pub mod laws;
+mod neighbours;
 mod openings;
-mod places;
 mod reconstructions;
 mod symmetry;
 

@@ -4,12 +4,12 @@ ghost use Rattle.std.specs.Prelude.{◌≡◌, ◌+◌, ◌-◌, ◌*◌, ◌≤
 ghost use Rattle.mw_model.specs.Pictures.{sample, IsSet};
 ghost use Rattle.mw_geodesic.specs.Components.{area_opening};
 ghost use Rattle.mw_geodesic.specs.Labels.{label_at};
-ghost use Rattle.mw_geodesic.specs.Places.{IsSymmetric};
+ghost use Rattle.mw_geodesic.specs.Neighbours.{IsSymmetric};
 
 use crate::drawings::{Drawing, redraw};
 use crate::labels::{areas, labelled};
 use mw_model::{NoMemory, Offset};
-use mw_reference::PlainImage;
+use mw_reference::ReferenceImage;
 use std::alloc::Global;
 
 /// The number at this place of the list; behind its end it is 0.
@@ -25,7 +25,7 @@ fn number_at(numbers: &[u32], i: usize) -> u32
 /// A mark for each place of a set whose label has a large enough area.
 #[derive(Drop)]
 struct LargeEnough<'a> {
-    set: &'a PlainImage,
+    set: &'a ReferenceImage,
     labels: &'a [u32],
     areas: &'a [u32],
     least: u32,
@@ -49,10 +49,10 @@ impl Drawing for LargeEnough<'_> {
 /// The components of a set with an area of `least` or more.
 pub fn area_opening_of_set(
     alloc: Global,
-    set: &PlainImage,
+    set: &ReferenceImage,
     least: u32,
     around: &[Offset],
-) -> Result<PlainImage, NoMemory>
+) -> Result<ReferenceImage, NoMemory>
     requires symmetric { IsSymmetric around.now }
     requires set { IsSet set.now }
     ensures { IfOk result (λ r. r ≡ area_opening around.now least set.now) }

@@ -9,16 +9,16 @@ ghost use Rattle.mw_geodesic.specs.Reconstructions.{at_border, border_cleared, b
 use crate::drawings::{Drawing, redraw};
 use crate::flood::reconstruction;
 use mw_model::{NoMemory, Offset};
-use mw_reference::{PlainImage, complement, eroded_times, minus};
+use mw_reference::{ReferenceImage, complement, eroded_times, minus};
 use std::alloc::Global;
 
 /// The marker, raised to the mask, eroded above the mask until nothing changes.
 pub fn reconstruction_by_erosion(
     alloc: Global,
-    marker: &PlainImage,
-    mask: &PlainImage,
+    marker: &ReferenceImage,
+    mask: &ReferenceImage,
     element: &[Offset],
-) -> Result<PlainImage, NoMemory>
+) -> Result<ReferenceImage, NoMemory>
     requires { SameShape marker.now mask.now }
     ensures { IfOk result (λ r. r ≡ reconstruction_by_erosion element.now mask.now marker.now) }
 {
@@ -33,11 +33,11 @@ pub fn reconstruction_by_erosion(
 /// n erosions, and the reconstruction of the image from what they leave.
 pub fn opening_by_reconstruction(
     alloc: Global,
-    image: &PlainImage,
+    image: &ReferenceImage,
     element: &[Offset],
     n: u32,
     around: &[Offset],
-) -> Result<PlainImage, NoMemory>
+) -> Result<ReferenceImage, NoMemory>
     ensures { IfOk result (λ r. r ≡ opening_by_reconstruction around.now element.now n image.now) }
 {
     let eroded = eroded_times(alloc, image, element, n)?;
@@ -48,11 +48,11 @@ pub fn opening_by_reconstruction(
 /// its complement.
 pub fn closing_by_reconstruction(
     alloc: Global,
-    image: &PlainImage,
+    image: &ReferenceImage,
     element: &[Offset],
     n: u32,
     around: &[Offset],
-) -> Result<PlainImage, NoMemory>
+) -> Result<ReferenceImage, NoMemory>
     ensures { IfOk result (λ r. r ≡ closing_by_reconstruction around.now element.now n image.now) }
 {
     image.is_small();
@@ -64,7 +64,7 @@ pub fn closing_by_reconstruction(
 /// The samples at the border, and one value within.
 #[derive(Drop)]
 struct BorderOver<'a> {
-    image: &'a PlainImage,
+    image: &'a ReferenceImage,
     value: u16,
 }
 
@@ -83,7 +83,11 @@ impl Drawing for BorderOver<'_> {
 }
 
 /// The image at the border of the frame, and one value within.
-fn border_over(alloc: Global, image: &PlainImage, value: u16) -> Result<PlainImage, NoMemory>
+fn border_over(
+    alloc: Global,
+    image: &ReferenceImage,
+    value: u16,
+) -> Result<ReferenceImage, NoMemory>
     requires { value ≤ image.now.maxval }
     ensures { IfOk result (λ r. r ≡ border_over value image.now) }
 {
@@ -93,9 +97,9 @@ fn border_over(alloc: Global, image: &PlainImage, value: u16) -> Result<PlainIma
 /// The image with its holes filled: what a path from the border does not lead to without going higher.
 pub fn holes_filled(
     alloc: Global,
-    image: &PlainImage,
+    image: &ReferenceImage,
     around: &[Offset],
-) -> Result<PlainImage, NoMemory>
+) -> Result<ReferenceImage, NoMemory>
     ensures { IfOk result (λ r. r ≡ holes_filled around.now image.now) }
 {
     let border = border_over(alloc, image, image.maxval())?;
@@ -105,9 +109,9 @@ pub fn holes_filled(
 /// The image less what is reconstructed from its border.
 pub fn border_cleared(
     alloc: Global,
-    image: &PlainImage,
+    image: &ReferenceImage,
     around: &[Offset],
-) -> Result<PlainImage, NoMemory>
+) -> Result<ReferenceImage, NoMemory>
     ensures { IfOk result (λ r. r ≡ border_cleared around.now image.now) }
 {
     let border = border_over(alloc, image, 0)?;

@@ -1,7 +1,7 @@
 //! Whether an element shows each place what that place shows to it.
 
 ghost use Rattle.std.specs.Prelude.{◌≡◌, ℕ, true, false};
-ghost use Rattle.mw_geodesic.specs.Places.{Covers, IsSymmetric, Joins};
+ghost use Rattle.mw_geodesic.specs.Neighbours.{ElementCovers, IsSymmetric, Joins};
 
 use mw_model::Offset;
 
@@ -23,8 +23,8 @@ fn is_opposite(b: Offset, c: Offset) -> bool
 
 /// Whether an offset of the element leads back where this one came from.
 fn leads_back(element: &[Offset], b: Offset) -> bool
-    ensures back { result ≡ true → (x y u v : ℕ) → Joins b x y u v → Covers element.now u v x y }
-    ensures nowhere { result ≡ false → (x y u v : ℕ) → Joins b x y u v → Covers element.now u v x y → ⊥ }
+    ensures back { result ≡ true → (x y u v : ℕ) → Joins b x y u v → ElementCovers element.now u v x y }
+    ensures nowhere { result ≡ false → (x y u v : ℕ) → Joins b x y u v → ElementCovers element.now u v x y → ⊥ }
 {
     for i in 0..element.len() {
         if is_opposite(b, element[i]) {

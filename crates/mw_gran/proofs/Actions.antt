@@ -2,7 +2,7 @@
 use Rattle.std.proofs.Common.{◌≡◌, ℕ, zero, suc, ◌+◌, ◌<◌, ◌≤◌, List, [], ◌∷◌, refl, ap, sym, subst, arith, ◌∙◌}
 use Rattle.mw_model.specs.declared.shapes.Kind.{Kind}
 use Rattle.mw_model.specs.declared.shapes.Kind.TheVariants.{Bit, Grey}
-use Rattle.mw_model.specs.declared.places.Offset.{Offset}
+use Rattle.mw_model.specs.declared.offsets.Offset.{Offset}
 use Rattle.mw_model.specs.Pictures.{Picture, sample, drawn, IsPicture, IsSet}
 use Rattle.mw_model.specs.Flat.{under, least, greatest, erosion, dilation, reflected}
 use Rattle.mw_model.specs.Iterates.{times, residue_mark, skeleton, level_set, union}
@@ -12,23 +12,23 @@ use Rattle.mw_model.proofs.ImagePlaces.{length-rows}
 use Rattle.mw_model.proofs.ImageOrder.{bounded_erosion, bounded_dilation}
 use Rattle.mw_model.proofs.Iterated.{eroded_shape}
 use Rattle.mw_plan.specs.Steps.{ActsAs}
-use Rattle.mw_gran.specs.Growing.{IsFramed, Acts, Shows}
+use Rattle.mw_gran.specs.Growing.{IsOfFrame, Acts, ShowsOperator}
 use Rattle.mw_gran.specs.Turns.{marked}
 use Rattle.mw_gran.proofs.StepPlanes.{plane-sum, plane-equal, plane-join, plane-mark, plane-mark_last}
 
 -- ---- frames
 
-pub drawn_framed : (kind : Kind) (w h maxval : ℕ) (value : ℕ → ℕ → ℕ) → IsFramed (drawn kind w h maxval value) w h
+pub drawn_framed : (kind : Kind) (w h maxval : ℕ) (value : ℕ → ℕ → ℕ) → IsOfFrame (drawn kind w h maxval value) w h
 drawn_framed kind w h maxval value = record { width = refl; height = refl; size = length-rows value w 0 h }
 
 -- the operator keeps the frame of each image
 abbrev pub KeepsFrames : (Picture → Picture) → Type 0
-KeepsFrames operator = (f : Picture) (w h : ℕ) → IsFramed f w h → IsFramed (operator f) w h
+KeepsFrames operator = (f : Picture) (w h : ℕ) → IsOfFrame f w h → IsOfFrame (operator f) w h
 
-redrawn_framed : (kind : Kind) (maxval : ℕ) (value : ℕ → ℕ → ℕ) (f : Picture) (w h : ℕ) → IsFramed f w h → IsFramed (drawn kind f.width f.height maxval value) w h
+redrawn_framed : (kind : Kind) (maxval : ℕ) (value : ℕ → ℕ → ℕ) (f : Picture) (w h : ℕ) → IsOfFrame f w h → IsOfFrame (drawn kind f.width f.height maxval value) w h
 redrawn_framed kind maxval value f w h framed =
-    subst (λ (t : ℕ). IsFramed (drawn kind f.width f.height maxval value) t h) framed.width
-    (subst (λ (t : ℕ). IsFramed (drawn kind f.width f.height maxval value) f.width t) framed.height (drawn_framed kind f.width f.height maxval value))
+    subst (λ (t : ℕ). IsOfFrame (drawn kind f.width f.height maxval value) t h) framed.width
+    (subst (λ (t : ℕ). IsOfFrame (drawn kind f.width f.height maxval value) f.width t) framed.height (drawn_framed kind f.width f.height maxval value))
 
 pub erosion_framed : (b : List Offset) → KeepsFrames (erosion b)
 erosion_framed b f w h framed = redrawn_framed f.kind f.maxval (λ x y. least f.maxval (under f b x y)) f w h framed
@@ -41,13 +41,13 @@ times_framed operator keeps zero f w h framed = framed
 times_framed operator keeps (suc n) f w h framed = keeps (times n operator f) w h (times_framed operator keeps n f w h framed)
 
 -- the image is of its own frame
-pub picture_framed : (f : Picture) → IsPicture f → IsFramed f f.width f.height
+pub picture_framed : (f : Picture) → IsPicture f → IsOfFrame f f.width f.height
 picture_framed f picture = record { width = refl; height = refl; size = picture.size }
 
 -- ---- steps of one image
 
 pub acts_on : (Fits : Picture → Type 0) (step : PlanStep) (operator before : Picture → Picture) → ActsAs step operator → KeepsFrames operator
-    → ((f : Picture) → Fits f → IsFramed (before f) f.width f.height)
+    → ((f : Picture) → Fits f → IsOfFrame (before f) f.width f.height)
     → Acts Fits step (λ f. before f ∷ []) (λ f. operator (before f))
 acts_on Fits step operator before acts keeps framed = record {
   made = λ f fits. acts.made (before f);
@@ -55,7 +55,7 @@ acts_on Fits step operator before acts keeps framed = record {
   framed = λ f fits. keeps (before f) f.width f.height (framed f fits);
 }
   where
-    of_frame : (g : Picture) (w h : ℕ) → IsFramed g w h → plane_of step (g ∷ []) w h ≡ operator g
+    of_frame : (g : Picture) (w h : ℕ) → IsOfFrame g w h → plane_of step (g ∷ []) w h ≡ operator g
     of_frame g w h framed =
         ap (λ (t : ℕ). plane_of step (g ∷ []) t h) (sym framed.width)
         ∙ ap (λ (t : ℕ). plane_of step (g ∷ []) g.width t) (sym framed.height)
@@ -68,7 +68,7 @@ acts_equal Fits v picture = record {
   framed = λ f fits. drawn_framed Bit f.width f.height 1 _;
 }
 
-pub acts_sum : (Fits : Picture → Type 0) (before : Picture → Picture) → ((f : Picture) → Fits f → IsFramed (before f) f.width f.height) → Acts Fits Sum (λ f. before f ∷ []) before
+pub acts_sum : (Fits : Picture → Type 0) (before : Picture → Picture) → ((f : Picture) → Fits f → IsOfFrame (before f) f.width f.height) → Acts Fits Sum (λ f. before f ∷ []) before
 acts_sum Fits before framed = record {
   made = λ f fits. record { count = refl; kinds = tt };
   plane = λ f fits. plane-sum (before f) f.width f.height (framed f fits);
@@ -77,7 +77,7 @@ acts_sum Fits before framed = record {
 
 -- ---- unions
 
-pub acts_join : (Fits : Picture → Type 0) (first second : Picture → Picture) → ((f : Picture) → Fits f → IsFramed (first f) f.width f.height) → ((f : Picture) → Fits f → IsFramed (second f) f.width f.height)
+pub acts_join : (Fits : Picture → Type 0) (first second : Picture → Picture) → ((f : Picture) → Fits f → IsOfFrame (first f) f.width f.height) → ((f : Picture) → Fits f → IsOfFrame (second f) f.width f.height)
     → ((f : Picture) → (first f).kind ≡ (second f).kind) → ((f : Picture) → (first f).maxval ≡ (second f).maxval)
     → Acts Fits Join (λ f. first f ∷ second f ∷ []) (λ f. union (first f) (second f))
 acts_join Fits first second framed beside kinds maxvals = record {
@@ -95,13 +95,13 @@ acts_blank b depth low = record {
   framed = λ f fits. drawn_framed Grey f.width f.height (depth + 1) (residue_mark b f 0);
 }
 
-pub eroded_framed : (b : List Offset) (n : ℕ) (f : Picture) → IsSet f → IsFramed (times n (erosion b) f) f.width f.height
+pub eroded_framed : (b : List Offset) (n : ℕ) (f : Picture) → IsSet f → IsOfFrame (times n (erosion b) f) f.width f.height
 eroded_framed b n f set = times_framed (erosion b) (erosion_framed b) n f f.width f.height (picture_framed f set.picture)
 
 abbrev opened : List Offset → ℕ → Picture → Picture
 opened b n f = dilation (reflected b) (erosion b (times n (erosion b) f))
 
-opened_framed : (b : List Offset) (n : ℕ) (f : Picture) → IsSet f → IsFramed (opened b n f) f.width f.height
+opened_framed : (b : List Offset) (n : ℕ) (f : Picture) → IsSet f → IsOfFrame (opened b n f) f.width f.height
 opened_framed b n f set =
     let eroded = erosion b (times n (erosion b) f) in
     dilation_framed (reflected b) eroded f.width f.height (erosion_framed b (times n (erosion b) f) f.width f.height (eroded_framed b n f set))
@@ -135,7 +135,7 @@ acts_mark_last b depth = record {
 }
 
 -- the input shows the image
-pub shows_input : (Fits : Picture → Type 0) (p : _) → ((f : Picture) → Fits f → IsPicture f) → Shows Fits p (FromInput 0) (λ f. f)
+pub shows_input : (Fits : Picture → Type 0) (p : _) → ((f : Picture) → Fits f → IsPicture f) → ShowsOperator Fits p (FromInput 0) (λ f. f)
 shows_input Fits p picture = record {
   here = omega arith;
   plane = tt;

@@ -1,7 +1,7 @@
 -- Restorations and spectra as they are made, one turn after another.
 use Rattle.std.proofs.Common.{◌≡◌, ℕ, zero, suc, ◌+◌, ◌<◌, ◌≤◌, List, [], ◌∷◌, ◌++◌, max, refl, ap, sym, arith, ◌∙◌}
 use Rattle.std.proofs.lemmas.List.FromFn.{map-range_with_len_more}
-use Rattle.mw_model.specs.declared.places.Offset.{Offset}
+use Rattle.mw_model.specs.declared.offsets.Offset.{Offset}
 use Rattle.mw_model.specs.Pictures.{Picture, sample}
 use Rattle.mw_model.specs.Flat.{under, greatest, dilation, reflected}
 use Rattle.mw_model.specs.Iterates.{times, level_set, union, restoration, volume, spectrum}

@@ -2,6 +2,7 @@
 use Rattle.std.proofs.Common.{◌≡◌, ℕ, ◌+◌, ◌-◌, ◌*◌, ◌/◌, ◌≤◌, true, false, List, [], ◌∷◌, length, Some, None, refl, ap, sym, subst, arith, ◌∙◌}
 use Rattle.std.specs.Prelude.{slice_index_or, nat_le, ◌&&◌}
 use Rattle.std.proofs.lemmas.Bool.Decides.{nat_tests}
+use Rattle.mw_model.specs.declared.limits.TheConstants.{SIZE_LIMIT, TURN_LIMIT}
 use Rattle.mw_model.specs.declared.shapes.Kind.{Kind}
 use Rattle.mw_model.specs.declared.shapes.Kind.TheVariants.{Bit, Grey}
 use Rattle.mw_model.specs.declared.shapes.Shape.{Shape}
@@ -10,8 +11,8 @@ use Rattle.mw_model.specs.declared.operations.Op.TheVariants as op
 use Rattle.mw_model.specs.declared.operations.GranOp.{GranOp}
 use Rattle.mw_model.specs.declared.operations.GranOp.TheVariants.{Skeleton, Restore, Spectrum}
 use Rattle.mw_model.specs.declared.names.Name.{Name}
-use Rattle.mw_model.specs.declared.places.Offset.{Offset}
-use Rattle.mw_model.specs.declared.places.OffsetBox.{OffsetBox}
+use Rattle.mw_model.specs.declared.offsets.Offset.{Offset}
+use Rattle.mw_model.specs.declared.offsets.OffsetBox.{OffsetBox}
 use Rattle.mw_model.specs.Laws.{HoldsOrigin}
 use Rattle.mw_plan.specs.mw_element.Figures.{FillsBox}
 use Rattle.std.proofs.Math.Nat.{mul-le-mul_left, mul-le-mul_right}
@@ -29,7 +30,7 @@ use Rattle.mw_plan.specs.PlansOf.{IsReadBy, IsPlanOf}
 use Rattle.mw_plan.specs.Steps.{last_plane}
 use Rattle.mw_plan.proofs.Fitting.{none_first, count_two, image_drawn, bits_drawn, grey_drawn, MeansOf, finds_two, plan_of_image, drawn_value}
 use Rattle.mw_plan.proofs.Planes.{length-planes}
-use Rattle.mw_gran.specs.Growing.{seen_of}
+use Rattle.mw_gran.specs.Growing.{source_seen}
 use Rattle.mw_gran.specs.Sizes.{LevelsFit, MakesGran, most_steps, most_steps_by_box}
 use Rattle.mw_gran.specs.Turns.{Draws, Tells}
 
@@ -48,7 +49,7 @@ draws_means Fits p steps operator s drawn some few draws = record {
   value = λ f fits. drawn_value s p f (operator f) drawn (last f ∙ draws.shows.is f fits);
 }
   where
-    last : (f : Picture) → last_plane p f ≡ seen_of p f (FromStep (length p - 1))
+    last : (f : Picture) → last_plane p f ≡ source_seen p f (FromStep (length p - 1))
     last f = ap (λ (n : ℕ). slice_index_or (planes p (f ∷ []) f.width f.height) (n - 1) no_picture) (length-planes p (f ∷ []) f.width f.height)
 
 tells_means : (p : Plan) (steps levels : ℕ) (numbers : Picture → List ℕ) → length p ≤ 896 → Tells p steps numbers → MeansOf IsPicture (shape.Curve levels) (λ f. CurveValue (numbers f)) p
@@ -100,15 +101,15 @@ IsAllowed-gran (Skeleton f e levels) a b c none =
     let second = none_first (is_element_input b) (fault.Kind 1) _ first.1 in
     let third = none_first (is_binary (image_shape a)) fault.Binary _ second.1 in
     let fourth = none_first (holds_origin (offsets_of_input b)) fault.NoOrigin _ third.1 in
-    record { image = first.0; element = second.0; levels = number_ok levels 254 fourth.1 }
+    record { image = first.0; element = second.0; levels = number_ok levels TURN_LIMIT fourth.1 }
 IsAllowed-gran (Restore f e levels) a b c none =
     let first = none_first (is_image_input a) (fault.Kind 0) _ none in
     let second = none_first (is_element_input b) (fault.Kind 1) _ first.1 in
-    record { image = first.0; element = second.0; levels = number_ok levels 254 second.1 }
+    record { image = first.0; element = second.0; levels = number_ok levels TURN_LIMIT second.1 }
 IsAllowed-gran (Spectrum f e levels) a b c none =
     let first = none_first (is_image_input a) (fault.Kind 0) _ none in
     let second = none_first (is_element_input b) (fault.Kind 1) _ first.1 in
-    record { image = first.0; element = second.0; levels = number_ok levels 32 second.1 }
+    record { image = first.0; element = second.0; levels = number_ok levels SIZE_LIMIT second.1 }
 
 is_set : (f e : Name) (levels : ℕ) (a b c : Input) → fault_in (op.Gran (Skeleton f e levels)) a b c ≡ None → is_binary (image_shape a) ≡ true
 is_set f e levels a b c none =

@@ -5,9 +5,9 @@ use Rattle.std.specs.List.{range_with_len, flat_map}
 use Rattle.std.proofs.lemmas.Int.{ints}
 use Rattle.std.proofs.Math.IntN.{pos-*ℤ-pos, pos-*ℤ-negsuc}
 use Rattle.mw_model.proofs.mw_facts.Alls.{flat_map-same}
-use Rattle.mw_model.specs.declared.places.Offset.{Offset}
-use Rattle.mw_model.specs.declared.places.OffsetBox.{OffsetBox}
-use Rattle.mw_model.specs.Places.{nonnegative, span, box_offsets}
+use Rattle.mw_model.specs.declared.offsets.Offset.{Offset}
+use Rattle.mw_model.specs.declared.offsets.OffsetBox.{OffsetBox}
+use Rattle.mw_model.specs.Rectangles.{nonnegative, span, box_offsets}
 use Rattle.mw_model.specs.Pictures.{Picture, IsPicture}
 use Rattle.mw_model.specs.Flat.{erosion, dilation, reflected}
 use Rattle.mw_model.specs.Iterates.{times, rectangle}
@@ -186,7 +186,7 @@ module _ (box : OffsetBox) (b : List Offset) (n : ℕ) (f : Picture) (fills : Fi
       ∙ sym (times-erosion_box at.left at.right at.top at.bottom n f picture)
       ∙ sym (times_same (erosion b) (erosion (rectangle at.left at.right at.top at.bottom)) n f (λ g. erosion_same b (rectangle at.left at.right at.top at.bottom) g same))
 
-  -- and the same of dilations
+  -- and a dilation by the multiplied box is so many dilations
   pub dilation-multiplied : dilation (box_offsets (multiplied n box)) f ≡ times n (dilation b) f
   dilation-multiplied =
       let at = FillsBox-bounded box b fills holds in

@@ -2,40 +2,40 @@
 use Rattle.std.proofs.Common.{◌≡◌, ℕ, suc, ◌+◌, ◌<◌, ◌≤◌, ◌&&◌, ◌==◌, not, if◌then◌else◌, List, [], ◌∷◌, max, refl, ap, subst, arith, ◌∙◌, inl, inr}
 use Rattle.std.proofs.lemmas.Bool.{cases_eq}
 use Rattle.mw_model.specs.declared.shapes.Kind.TheVariants.{Bit, Grey}
-use Rattle.mw_model.specs.declared.places.Offset.{Offset}
-use Rattle.mw_model.specs.declared.places.OffsetBox.{OffsetBox}
-use Rattle.mw_model.specs.Places.{box_offsets}
+use Rattle.mw_model.specs.declared.offsets.Offset.{Offset}
+use Rattle.mw_model.specs.declared.offsets.OffsetBox.{OffsetBox}
+use Rattle.mw_model.specs.Rectangles.{box_offsets}
 use Rattle.mw_model.specs.Pictures.{Picture, sample, sample_at, drawn}
 use Rattle.mw_model.specs.Flat.{erosion, dilation, opening}
 use Rattle.mw_model.specs.Iterates.{times, residue_mark, skeleton, level_set, union}
 use Rattle.mw_model.specs.PlanSteps.{ErodeBox, DilateBox, Join, Mark, MarkLast, Equal, Sum, here}
 use Rattle.mw_model.specs.Plans.{plane_of}
-use Rattle.mw_gran.specs.Growing.{IsFramed}
+use Rattle.mw_gran.specs.Growing.{IsOfFrame}
 use Rattle.mw_gran.specs.Turns.{marked}
 use Rattle.mw_model.proofs.Covers.{sample_at_in}
 use Rattle.mw_model.proofs.ImagePlaces.{drawn_same, sample-drawn, redrawn_itself}
 
-pub here_sample : (f : Picture) (width height x y : ℕ) → IsFramed f width height → x < width → y < height → here (sample_at f) x y ≡ sample f x y
+pub here_sample : (f : Picture) (width height x y : ℕ) → IsOfFrame f width height → x < width → y < height → here (sample_at f) x y ≡ sample f x y
 here_sample f width height x y framed p q = rw (sample_at_in f x y (omega (arith, framed.width)) (omega (arith, framed.height))) refl
 
-pub plane-erode_box : (box : OffsetBox) (f : Picture) (width height : ℕ) → IsFramed f width height → plane_of (ErodeBox box) (f ∷ []) width height ≡ erosion (box_offsets box) f
+pub plane-erode_box : (box : OffsetBox) (f : Picture) (width height : ℕ) → IsOfFrame f width height → plane_of (ErodeBox box) (f ∷ []) width height ≡ erosion (box_offsets box) f
 plane-erode_box box f width height framed = rw (← framed.width, ← framed.height) refl
 
-pub plane-dilate_box : (box : OffsetBox) (f : Picture) (width height : ℕ) → IsFramed f width height → plane_of (DilateBox box) (f ∷ []) width height ≡ dilation (box_offsets box) f
+pub plane-dilate_box : (box : OffsetBox) (f : Picture) (width height : ℕ) → IsOfFrame f width height → plane_of (DilateBox box) (f ∷ []) width height ≡ dilation (box_offsets box) f
 plane-dilate_box box f width height framed = rw (← framed.width, ← framed.height) refl
 
-pub plane-sum : (f : Picture) (width height : ℕ) → IsFramed f width height → plane_of Sum (f ∷ []) width height ≡ f
+pub plane-sum : (f : Picture) (width height : ℕ) → IsOfFrame f width height → plane_of Sum (f ∷ []) width height ≡ f
 plane-sum f width height framed =
     drawn_same f.kind width height f.maxval (here (sample_at f)) (sample f) (λ x y p q. here_sample f width height x y framed p q)
     ∙ rw (← framed.width, ← framed.height) (redrawn_itself f (framed.size ∙ rw (framed.width, framed.height) refl))
 
-pub plane-equal : (v : ℕ) (f : Picture) (width height : ℕ) → IsFramed f width height → plane_of (Equal v) (f ∷ []) width height ≡ level_set v f
+pub plane-equal : (v : ℕ) (f : Picture) (width height : ℕ) → IsOfFrame f width height → plane_of (Equal v) (f ∷ []) width height ≡ level_set v f
 plane-equal v f width height framed =
     drawn_same Bit width height 1 (λ x y. if here (sample_at f) x y == v then 1 else 0) (λ x y. if sample f x y == v then 1 else 0)
     (λ x y p q. ap (λ (s : ℕ). if s == v then 1 else 0) (here_sample f width height x y framed p q))
     ∙ rw (← framed.width, ← framed.height) refl
 
-pub plane-join : (f g : Picture) (width height : ℕ) → IsFramed f width height → IsFramed g width height → plane_of Join (f ∷ g ∷ []) width height ≡ union f g
+pub plane-join : (f g : Picture) (width height : ℕ) → IsOfFrame f width height → IsOfFrame g width height → plane_of Join (f ∷ g ∷ []) width height ≡ union f g
 plane-join f g width height framed beside =
     drawn_same f.kind width height f.maxval (λ x y. max (here (sample_at f) x y) (here (sample_at g) x y)) (λ x y. max (sample f x y) (sample g x y))
     (λ x y p q. ap (λ (s : ℕ). max s (here (sample_at g) x y)) (here_sample f width height x y framed p q) ∙ ap (λ (s : ℕ). max (sample f x y) s) (here_sample g width height x y beside p q))
@@ -57,7 +57,7 @@ same_mark v s t m s' t' m' p q r le = rw (p, q, r, not_one t' le) refl
 
 -- a residue is what stands in a set and not in its opening
 pub plane-mark : (b : List Offset) (depth n : ℕ) (f g x o : Picture)
-    → IsFramed g f.width f.height → IsFramed x f.width f.height → IsFramed o f.width f.height
+    → IsOfFrame g f.width f.height → IsOfFrame x f.width f.height → IsOfFrame o f.width f.height
     → g ≡ marked b depth n f → x ≡ times n (erosion b) f → o ≡ opening b (times n (erosion b) f)
     → ((i j : ℕ) → i < f.width → j < f.height → sample o i j ≤ 1)
     → plane_of (Mark (n + 1)) (g ∷ x ∷ o ∷ []) f.width f.height ≡ marked b depth (suc n) f
@@ -77,7 +77,7 @@ abbrev over : ℕ → ℕ → ℕ → ℕ
 over v s m = if s == 1 then v else m
 
 -- what the last erosion leaves stands over the marks
-pub plane-mark_last : (b : List Offset) (depth : ℕ) (f g x : Picture) → IsFramed g f.width f.height → IsFramed x f.width f.height
+pub plane-mark_last : (b : List Offset) (depth : ℕ) (f g x : Picture) → IsOfFrame g f.width f.height → IsOfFrame x f.width f.height
     → g ≡ marked b depth depth f → x ≡ times depth (erosion b) f
     → plane_of (MarkLast (depth + 1)) (g ∷ x ∷ []) f.width f.height ≡ skeleton b depth f
 plane-mark_last b depth f g x g-framed x-framed g-is x-is =

@@ -1,8 +1,8 @@
 -- One turn after another: skeletons, restorations and spectra.
 use Rattle.std.proofs.Common.{◌≡◌, ℕ, zero, suc, ◌+◌, ◌-◌, ◌*◌, ◌/◌, ◌<◌, ◌≤◌, ◌⊎◌, false, List, [], ◌∷◌, ◌++◌, Option, Some, None, length, sum, refl, ap, sym, subst, arith, ◌∙◌, inl, inr}
 use Rattle.std.proofs.lemmas.Bool.{cases_eq}
-use Rattle.mw_model.specs.declared.places.Offset.{Offset}
-use Rattle.mw_model.specs.declared.places.OffsetBox.{OffsetBox}
+use Rattle.mw_model.specs.declared.offsets.Offset.{Offset}
+use Rattle.mw_model.specs.declared.offsets.OffsetBox.{OffsetBox}
 use Rattle.mw_model.specs.Pictures.{Picture, IsPicture, IsSet}
 use Rattle.mw_model.specs.Flat.{erosion, dilation, reflected}
 use Rattle.mw_model.specs.Iterates.{times, skeleton, level_set, union, restoration, spectrum}
@@ -16,7 +16,7 @@ use Rattle.mw_plan.specs.PlansOf.{IsReadBy}
 use Rattle.mw_plan.specs.Seen.{source}
 use Rattle.mw_plan.specs.Steps.{turned_box}
 use Rattle.mw_gran.specs.Boxes.{multiplied}
-use Rattle.mw_gran.specs.Growing.{IsFramed, IsPushed, Shows, IsSound, Acts, GoesOn}
+use Rattle.mw_gran.specs.Growing.{IsOfFrame, IsPushed, ShowsOperator, PlanIsSound, Acts, PlanGoesOn}
 use Rattle.mw_gran.specs.Turns.{Slides, after_erosions, Erodes, Draws, marked, AreMarks, MarksResidues, restored, HasLevels, Restores, Tells, StillShown, volume_steps, TellsVolumes, TellsSpectrum}
 use Rattle.mw_gran.proofs.OneMore.{AreShown, none, also, still_shows, now_shows, still_sound, still_read, now_read, still_counts, now_counts, pushed_count}
 use Rattle.mw_gran.proofs.Actions.{times_framed, picture_framed, erosion_framed, dilation_framed, acts_on, acts_equal, acts_sum, acts_join, acts_blank, acts_mark, acts_mark_last, shows_input}
@@ -30,10 +30,10 @@ pushed_last p q step sources s pushed =
     pushed.at ∙ ap FromStep e
 
 -- the source alone
-AreShown-alone : {Fits : Picture → Type 0} (p : Plan) (s : Source) (operator : Picture → Picture) → Shows Fits p s operator → AreShown Fits p (s ∷ []) (λ f. operator f ∷ [])
+AreShown-alone : {Fits : Picture → Type 0} (p : Plan) (s : Source) (operator : Picture → Picture) → ShowsOperator Fits p s operator → AreShown Fits p (s ∷ []) (λ f. operator f ∷ [])
 AreShown-alone p s operator shows = also s [] operator (λ f. []) shows none
 
-nothing_sound : (Fits : Picture → Type 0) → IsSound Fits []
+nothing_sound : (Fits : Picture → Type 0) → PlanIsSound Fits []
 nothing_sound Fits = record { sources = λ k. tt; planes = λ k. tt; made = λ f fits k lt. absurd (omega arith) }
 
 IsPicture-itself : (f : Picture) → IsPicture f → IsPicture f
@@ -49,7 +49,7 @@ nothing_eroded b p empty =
       read = inl refl;
       shows = λ k le.
           let first : 0 ≡ k = omega arith in
-          subst (λ (t : ℕ). Shows IsPicture [] (after_erosions t) (times t (erosion b))) first (shows_input IsPicture [] IsPicture-itself);
+          subst (λ (t : ℕ). ShowsOperator IsPicture [] (after_erosions t) (times t (erosion b))) first (shows_input IsPicture [] IsPicture-itself);
       counts = λ f fits. refl;
     })
 
@@ -62,13 +62,13 @@ erodes_one b n p q s erode dilate slides at pushed =
     let acts = acts_on IsPicture erode (erosion b) left slides.erodes (erosion_framed b) before.framed in
     let shown = AreShown-alone p e left before in
     let here : s ≡ FromStep n = pushed.at ∙ ap FromStep at.count in
-    let now = subst (λ (t : Source). Shows IsPicture q t next) here (now_shows IsPicture p q erode (e ∷ []) s (λ f. left f ∷ []) next pushed shown acts slides.erodes.plain) in
+    let now = subst (λ (t : Source). ShowsOperator IsPicture q t next) here (now_shows IsPicture p q erode (e ∷ []) s (λ f. left f ∷ []) next pushed shown acts slides.erodes.plain) in
     record {
       count = omega (arith, at.count, pushed_count p q erode (e ∷ []) s pushed);
       sound = still_sound IsPicture p q erode (e ∷ []) s (λ f. left f ∷ []) next pushed shown acts at.sound;
       read = inr (read_first at.read);
       shows = λ k le. elim (cases_eq k (suc n)) [
-        | inl last ↦ subst (λ (t : ℕ). Shows IsPicture q (after_erosions t) (times t (erosion b))) (sym last) now
+        | inl last ↦ subst (λ (t : ℕ). ShowsOperator IsPicture q (after_erosions t) (times t (erosion b))) (sym last) now
         | inr other ↦ still_shows IsPicture p q erode (e ∷ []) s (after_erosions k) (times k (erosion b)) pushed (at.shows k (omega arith))
       ];
       counts = still_counts IsPicture p q erode (e ∷ []) s (λ f. []) pushed slides.erodes.plain at.counts;
@@ -84,10 +84,10 @@ erodes_more b n p q r s erode dilate slides from at pushed =
     subst (λ (k : ℕ). Erodes b k q) more (erodes_one b n p q s erode dilate slides at (subst (λ (t : Source). IsPushed p q erode (t ∷ []) s) from pushed))
 
 -- what holds of pictures holds of sets
-sound_of_sets : (p : Plan) → IsSound IsPicture p → IsSound IsSet p
+sound_of_sets : (p : Plan) → PlanIsSound IsPicture p → PlanIsSound IsSet p
 sound_of_sets p sound = record { sources = sound.sources; planes = sound.planes; made = λ f set. sound.made f set.picture }
 
-shows_of_sets : (p : Plan) (s : Source) (operator : Picture → Picture) → Shows IsPicture p s operator → Shows IsSet p s operator
+shows_of_sets : (p : Plan) (s : Source) (operator : Picture → Picture) → ShowsOperator IsPicture p s operator → ShowsOperator IsSet p s operator
 shows_of_sets p s operator shows = record {
   here = shows.here;
   plane = shows.plane;
@@ -105,16 +105,16 @@ skeleton_begins b depth p at = record {
   are_marks = refl;
 }
 
-pub blank_goes_on : (depth : ℕ) (p q : Plan) (s : Source) → depth < 65535 → IsPushed p q (Blank (depth + 1)) [] s → GoesOn IsSet p q
+pub blank_goes_on : (depth : ℕ) (p q : Plan) (s : Source) → depth < 65535 → IsPushed p q (Blank (depth + 1)) [] s → PlanGoesOn IsSet p q
 blank_goes_on depth p q s low pushed = record {
   sound = λ sound. still_sound IsSet p q (Blank (depth + 1)) [] s (λ f. []) (marked [] depth 0) pushed none (acts_blank [] depth low) sound;
   read = still_read p q (Blank (depth + 1)) [] s pushed;
   shows = λ r operator shows. still_shows IsSet p q (Blank (depth + 1)) [] s r operator pushed shows;
 }
 
-pub blank_shows : (b : List Offset) (depth n : ℕ) (p q : Plan) (s : Source) → depth < 65535 → n ≡ 0 → IsPushed p q (Blank (depth + 1)) [] s → Shows IsSet q s (marked b depth n)
+pub blank_shows : (b : List Offset) (depth n : ℕ) (p q : Plan) (s : Source) → depth < 65535 → n ≡ 0 → IsPushed p q (Blank (depth + 1)) [] s → ShowsOperator IsSet q s (marked b depth n)
 blank_shows b depth n p q s low first pushed =
-    subst (λ (k : ℕ). Shows IsSet q s (marked b depth k)) (sym first) (now_shows IsSet p q (Blank (depth + 1)) [] s (λ f. []) (marked b depth 0) pushed none (acts_blank b depth low) refl)
+    subst (λ (k : ℕ). ShowsOperator IsSet q s (marked b depth k)) (sym first) (now_shows IsSet p q (Blank (depth + 1)) [] s (λ f. []) (marked b depth 0) pushed none (acts_blank b depth low) refl)
 
 -- the marks stay
 pub still_marks : (b : List Offset) (depth n : ℕ) (p q : Plan) (step : PlanStep) (sources : List Source) (r : Source) (marks : Option Read) → IsPushed p q step sources r → AreMarks b depth n p marks → AreMarks b depth n q marks
@@ -122,7 +122,7 @@ still_marks b depth n p q step sources r (Some m) pushed are = still_shows IsSet
 still_marks b depth n p q step sources r None pushed are = are
 
 skeleton_turn_more : (b : List Offset) (depth n : ℕ) (p p1 p2 p3 : Plan) (m o : Source) (before : Option Read) (after : Read) (erode dilate : PlanStep) → Slides b erode dilate → n < depth
-    → MarksResidues b depth n p before → IsPushed p p1 dilate (after_erosions (suc n) ∷ []) o → GoesOn IsSet p1 p2 → Shows IsSet p2 m (marked b depth n)
+    → MarksResidues b depth n p before → IsPushed p p1 dilate (after_erosions (suc n) ∷ []) o → PlanGoesOn IsSet p1 p2 → ShowsOperator IsSet p2 m (marked b depth n)
     → IsPushed p2 p3 (Mark (n + 1)) (m ∷ after_erosions n ∷ o ∷ []) (source after) → MarksResidues b depth (suc n) p3 (Some after)
 skeleton_turn_more b depth n p p1 p2 p3 m o before after erode dilate slides below at push1 goes_on shows2 push3 =
     let e = after_erosions n in
@@ -130,7 +130,7 @@ skeleton_turn_more b depth n p p1 p2 p3 m o before after erode dilate slides bel
     let left : Picture → Picture = times n (erosion b) in
     let next : Picture → Picture = λ f. erosion b (left f) in
     let opened : Picture → Picture = λ f. dilation (reflected b) (next f) in
-    let shows_next : Shows IsSet p s next = at.shows_eroded (suc n) (omega arith) in
+    let shows_next : ShowsOperator IsSet p s next = at.shows_eroded (suc n) (omega arith) in
     let acts1 = acts_on IsSet dilate (dilation (reflected b)) next slides.dilates (dilation_framed (reflected b)) shows_next.framed in
     let shown1 = AreShown-alone p s next shows_next in
     let shows1 = now_shows IsSet p p1 dilate (s ∷ []) o (λ f. next f ∷ []) opened push1 shown1 acts1 slides.dilates.plain in
@@ -154,7 +154,7 @@ skeleton_turn_more b depth n p p1 p2 p3 m o before after erode dilate slides bel
     read_still (inr read) = inr (still_read p2 p3 (Mark (n + 1)) (m ∷ after_erosions n ∷ o ∷ []) (source after) push3 (goes_on.read (still_read p p1 dilate (after_erosions (suc n) ∷ []) o push1 read)))
 
 pub skeleton_turn : (b : List Offset) (depth n : ℕ) (p p1 p2 p3 : Plan) (r e m o : Source) (before : Option Read) (after : Read) (erode dilate : PlanStep) → Slides b erode dilate → n < depth
-    → MarksResidues b depth n p before → r ≡ after_erosions (n + 1) → e ≡ after_erosions n → IsPushed p p1 dilate (r ∷ []) o → GoesOn IsSet p1 p2 → Shows IsSet p2 m (marked b depth n)
+    → MarksResidues b depth n p before → r ≡ after_erosions (n + 1) → e ≡ after_erosions n → IsPushed p p1 dilate (r ∷ []) o → PlanGoesOn IsSet p1 p2 → ShowsOperator IsSet p2 m (marked b depth n)
     → IsPushed p2 p3 (Mark (n + 1)) (m ∷ e ∷ o ∷ []) (source after) → MarksResidues b depth (n + 1) p3 (Some after)
 skeleton_turn b depth n p p1 p2 p3 r e m o before after erode dilate slides below at r-is e-is push1 goes_on shows2 push3 =
     let more : suc n ≡ n + 1 = omega arith in
@@ -163,8 +163,8 @@ skeleton_turn b depth n p p1 p2 p3 r e m o before after erode dilate slides belo
     (skeleton_turn_more b depth n p p1 p2 p3 m o before after erode dilate slides below at (subst (λ (t : Source). IsPushed p p1 dilate (t ∷ []) o) next push1) goes_on shows2
     (subst (λ (t : Source). IsPushed p2 p3 (Mark (n + 1)) (m ∷ t ∷ o ∷ []) (source after)) e-is push3))
 
-skeleton_ends_at : (b : List Offset) (depth : ℕ) (p q r : Plan) (m s : Source) (before : Option Read) → length q ≡ 3 * depth + 1 → MarksResidues b depth depth p before → GoesOn IsSet p q
-    → Shows IsSet q m (marked b depth depth) → IsPushed q r (MarkLast (depth + 1)) (m ∷ after_erosions depth ∷ []) s → Draws IsSet r (3 * depth + 2) (skeleton b depth)
+skeleton_ends_at : (b : List Offset) (depth : ℕ) (p q r : Plan) (m s : Source) (before : Option Read) → length q ≡ 3 * depth + 1 → MarksResidues b depth depth p before → PlanGoesOn IsSet p q
+    → ShowsOperator IsSet q m (marked b depth depth) → IsPushed q r (MarkLast (depth + 1)) (m ∷ after_erosions depth ∷ []) s → Draws IsSet r (3 * depth + 2) (skeleton b depth)
 skeleton_ends_at b depth p q r m s before count at goes_on shows_marks pushed =
     let e = after_erosions depth in
     let left : Picture → Picture = times depth (erosion b) in
@@ -175,7 +175,7 @@ skeleton_ends_at b depth p q r m s before count at goes_on shows_marks pushed =
       count = omega (arith, count, pushed_count q r (MarkLast (depth + 1)) (m ∷ e ∷ []) s pushed);
       sound = still_sound IsSet q r (MarkLast (depth + 1)) (m ∷ e ∷ []) s (λ f. marked b depth depth f ∷ left f ∷ []) (skeleton b depth) pushed shown last (goes_on.sound at.sound);
       read = read_last at.read;
-      shows = subst (λ (t : Source). Shows IsSet r t (skeleton b depth)) (pushed_last q r (MarkLast (depth + 1)) (m ∷ e ∷ []) s pushed)
+      shows = subst (λ (t : Source). ShowsOperator IsSet r t (skeleton b depth)) (pushed_last q r (MarkLast (depth + 1)) (m ∷ e ∷ []) s pushed)
           (now_shows IsSet q r (MarkLast (depth + 1)) (m ∷ e ∷ []) s (λ f. marked b depth depth f ∷ left f ∷ []) (skeleton b depth) pushed shown last refl);
     }
   where
@@ -183,8 +183,8 @@ skeleton_ends_at b depth p q r m s before count at goes_on shows_marks pushed =
     read_last (inl here) = now_read q r (MarkLast (depth + 1)) (m ∷ after_erosions depth ∷ []) s pushed (1, omega arith, here)
     read_last (inr read) = still_read q r (MarkLast (depth + 1)) (m ∷ after_erosions depth ∷ []) s pushed (goes_on.read read)
 
-pub skeleton_ends : (b : List Offset) (depth : ℕ) (p q r : Plan) (e m s : Source) (before : Option Read) → length q ≡ 3 * depth + 1 → MarksResidues b depth depth p before → GoesOn IsSet p q
-    → Shows IsSet q m (marked b depth depth) → e ≡ after_erosions depth → IsPushed q r (MarkLast (depth + 1)) (m ∷ e ∷ []) s → Draws IsSet r (3 * depth + 2) (skeleton b depth)
+pub skeleton_ends : (b : List Offset) (depth : ℕ) (p q r : Plan) (e m s : Source) (before : Option Read) → length q ≡ 3 * depth + 1 → MarksResidues b depth depth p before → PlanGoesOn IsSet p q
+    → ShowsOperator IsSet q m (marked b depth depth) → e ≡ after_erosions depth → IsPushed q r (MarkLast (depth + 1)) (m ∷ e ∷ []) s → Draws IsSet r (3 * depth + 2) (skeleton b depth)
 skeleton_ends b depth p q r e m s before count at goes_on shows_marks e-is pushed =
     skeleton_ends_at b depth p q r m s before count at goes_on shows_marks (subst (λ (t : Source). IsPushed q r (MarkLast (depth + 1)) (m ∷ t ∷ []) s) e-is pushed)
 
@@ -203,13 +203,13 @@ levels_more n p q s at pushed =
     let acts = acts_equal IsPicture (n + 1) IsPicture-itself in
     let shown = AreShown-alone p (FromInput 0) (λ f. f) (shows_input IsPicture p IsPicture-itself) in
     let here : s ≡ FromStep n = pushed.at ∙ ap FromStep at.count in
-    let now = subst (λ (t : Source). Shows IsPicture q t (level_set (n + 1))) here (now_shows IsPicture p q (Equal (n + 1)) (FromInput 0 ∷ []) s (λ f. f ∷ []) (level_set (n + 1)) pushed shown acts refl) in
+    let now = subst (λ (t : Source). ShowsOperator IsPicture q t (level_set (n + 1))) here (now_shows IsPicture p q (Equal (n + 1)) (FromInput 0 ∷ []) s (λ f. f ∷ []) (level_set (n + 1)) pushed shown acts refl) in
     record {
       count = omega (arith, at.count, pushed_count p q (Equal (n + 1)) (FromInput 0 ∷ []) s pushed);
       sound = still_sound IsPicture p q (Equal (n + 1)) (FromInput 0 ∷ []) s (λ f. f ∷ []) (level_set (n + 1)) pushed shown acts at.sound;
       read = λ some. now_read p q (Equal (n + 1)) (FromInput 0 ∷ []) s pushed (0, omega arith, refl);
       shows = λ k lt. elim (cases_eq k n) [
-        | inl last ↦ subst (λ (t : ℕ). Shows IsPicture q (FromStep t) (level_set (t + 1))) (sym last) now
+        | inl last ↦ subst (λ (t : ℕ). ShowsOperator IsPicture q (FromStep t) (level_set (t + 1))) (sym last) now
         | inr other ↦ still_shows IsPicture p q (Equal (n + 1)) (FromInput 0 ∷ []) s (FromStep k) (level_set (k + 1)) pushed (at.shows k (omega arith))
       ];
     }
@@ -227,12 +227,12 @@ restoration_begins b depth p at =
       shows = at.shows depth (omega arith);
     }
 
-same_operator : (p : Plan) (s : Source) (first second : Picture → Picture) → ((f : Picture) → first f ≡ second f) → Shows IsPicture p s first → Shows IsPicture p s second
+same_operator : (p : Plan) (s : Source) (first second : Picture → Picture) → ((f : Picture) → first f ≡ second f) → ShowsOperator IsPicture p s first → ShowsOperator IsPicture p s second
 same_operator p s first second same shows = record {
   here = shows.here;
   plane = shows.plane;
   is = λ f fits. shows.is f fits ∙ same f;
-  framed = λ f fits. subst (λ (t : Picture). IsFramed t f.width f.height) (same f) (shows.framed f fits);
+  framed = λ f fits. subst (λ (t : Picture). IsOfFrame t f.width f.height) (same f) (shows.framed f fits);
 }
 
 restoration_turn_more : (b : List Offset) (depth n m : ℕ) (p p1 p2 : Plan) (s s1 s2 : Source) (erode dilate : PlanStep) → Slides b erode dilate → n < depth → Restores b depth (n + 1) m p s
@@ -273,7 +273,7 @@ restoration_ends b depth p s at = record {
   count = omega (arith, at.count);
   sound = at.sound;
   read = at.read;
-  shows = same_operator p (FromStep (length p - 1)) (restored b 0 depth) (restoration b depth) (restored-all b depth) (subst (λ (t : Source). Shows IsPicture p t (restored b 0 depth)) at.last at.shows);
+  shows = same_operator p (FromStep (length p - 1)) (restored b 0 depth) (restoration b depth) (restored-all b depth) (subst (λ (t : Source). ShowsOperator IsPicture p t (restored b 0 depth)) at.last at.shows);
 }
 
 -- ---- spectra
@@ -294,8 +294,8 @@ spectrum_begins b depth p q s at pushed =
 
 -- a step that tells no number
 pub tells_no_more : (p q : Plan) (step : PlanStep) (r s : Source) (before operator : Picture → Picture) (steps : ℕ) (numbers : Picture → List ℕ)
-    → IsPushed p q step (r ∷ []) s → Shows IsPicture p r before → Acts IsPicture step (λ f. before f ∷ []) operator → is_sum step ≡ false → Tells p steps numbers
-    → Tells q (suc steps) numbers × Shows IsPicture q s operator
+    → IsPushed p q step (r ∷ []) s → ShowsOperator IsPicture p r before → Acts IsPicture step (λ f. before f ∷ []) operator → is_sum step ≡ false → Tells p steps numbers
+    → Tells q (suc steps) numbers × ShowsOperator IsPicture q s operator
 tells_no_more p q step r s before operator steps numbers pushed shows acts not tells = (
   record {
     count = omega (arith, tells.count, pushed_count p q step (r ∷ []) s pushed);
@@ -308,7 +308,7 @@ tells_no_more p q step r s before operator steps numbers pushed shows acts not t
 
 -- the sum of what a source shows
 pub tells_sum : (p q : Plan) (r s : Source) (before : Picture → Picture) (steps : ℕ) (numbers : Picture → List ℕ)
-    → IsPushed p q Sum (r ∷ []) s → Shows IsPicture p r before → Tells p steps numbers → Tells q (suc steps) (λ f. numbers f ++ sum (before f).samples ∷ [])
+    → IsPushed p q Sum (r ∷ []) s → ShowsOperator IsPicture p r before → Tells p steps numbers → Tells q (suc steps) (λ f. numbers f ++ sum (before f).samples ∷ [])
 tells_sum p q r s before steps numbers pushed shows tells =
     let acts = acts_sum IsPicture before shows.framed in
     record {
@@ -330,7 +330,7 @@ same_tells p steps more numbers others e same tells = record {
 }
 
 pub spectrum_turn : (b : List Offset) (depth n : ℕ) (p p1 p2 : Plan) (s1 s2 : Source) → TellsVolumes b depth n p → StillShown p p1
-    → Tells p1 (depth + volume_steps n + (n + 1)) (spectrum b n) → Shows IsPicture p1 s1 (λ f. times (n + 1) (dilation (reflected b)) (times (n + 1) (erosion b) f))
+    → Tells p1 (depth + volume_steps n + (n + 1)) (spectrum b n) → ShowsOperator IsPicture p1 s1 (λ f. times (n + 1) (dilation (reflected b)) (times (n + 1) (erosion b) f))
     → IsPushed p1 p2 Sum (s1 ∷ []) s2
     → TellsVolumes b depth (n + 1) p2
 spectrum_turn b depth n p p1 p2 s1 s2 at kept tells shows push2 =
@@ -349,15 +349,15 @@ spectrum_turn b depth n p p1 p2 s1 s2 at kept tells shows push2 =
 
 -- n dilations one behind another
 pub dilated_more : (b : List Offset) (k steps : ℕ) (numbers : Picture → List ℕ) (before : Picture → Picture) (p q : Plan) (r s : Source) (erode dilate : PlanStep) → Slides b erode dilate
-    → Tells p (steps + k) numbers → Shows IsPicture p r (λ f. times k (dilation (reflected b)) (before f)) → IsPushed p q dilate (r ∷ []) s
-    → Tells q (steps + (k + 1)) numbers × Shows IsPicture q s (λ f. times (k + 1) (dilation (reflected b)) (before f))
+    → Tells p (steps + k) numbers → ShowsOperator IsPicture p r (λ f. times k (dilation (reflected b)) (before f)) → IsPushed p q dilate (r ∷ []) s
+    → Tells q (steps + (k + 1)) numbers × ShowsOperator IsPicture q s (λ f. times (k + 1) (dilation (reflected b)) (before f))
 dilated_more b k steps numbers before p q r s erode dilate slides tells shows pushed =
     let grown : Picture → Picture = λ f. times k (dilation (reflected b)) (before f) in
     let both = tells_no_more p q dilate r s grown (λ f. dilation (reflected b) (grown f)) (steps + k) numbers pushed shows
     (acts_on IsPicture dilate (dilation (reflected b)) grown slides.dilates (dilation_framed (reflected b)) shows.framed) slides.dilates.plain tells in
     let more : suc k ≡ k + 1 = omega arith in
     let steps_more : suc (steps + k) ≡ steps + (k + 1) = omega arith in
-    (subst (λ (n : ℕ). Tells q n numbers) steps_more both.0, subst (λ (n : ℕ). Shows IsPicture q s (λ f. times n (dilation (reflected b)) (before f))) more both.1)
+    (subst (λ (n : ℕ). Tells q n numbers) steps_more both.0, subst (λ (n : ℕ). ShowsOperator IsPicture q s (λ f. times n (dilation (reflected b)) (before f))) more both.1)
 
 volume_steps_twice : (n : ℕ) → 2 * volume_steps n ≡ n * (n + 1) + 2 * n + 2
 volume_steps_twice zero = omega arith

@@ -1,6 +1,6 @@
 -- Boxes of offsets with multiplied bounds.
 use Rattle.std.specs.Prelude.{ℕ, pos, ◌*ℤ◌}
-use Rattle.mw_model.specs.declared.places.OffsetBox.{OffsetBox}
+use Rattle.mw_model.specs.declared.offsets.OffsetBox.{OffsetBox}
 
 -- the box with all four bounds multiplied
 abbrev pub multiplied : ℕ → OffsetBox → OffsetBox

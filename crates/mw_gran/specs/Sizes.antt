@@ -1,8 +1,9 @@
 -- How many steps a plan may have.
 use Rattle.std.specs.Prelude.{ℕ, ◌+◌, ◌*◌, ◌/◌, ◌≤◌, List}
+use Rattle.mw_model.specs.declared.limits.TheConstants.{SIZE_LIMIT, TURN_LIMIT}
 use Rattle.mw_model.specs.declared.operations.GranOp.{GranOp}
 use Rattle.mw_model.specs.declared.operations.GranOp.TheVariants.{Skeleton, Restore, Spectrum}
-use Rattle.mw_model.specs.declared.places.Offset.{Offset}
+use Rattle.mw_model.specs.declared.offsets.Offset.{Offset}
 use Rattle.mw_model.specs.Iterates.{skeleton, restoration}
 use Rattle.mw_model.specs.Pictures.{IsPicture, IsSet}
 use Rattle.mw_model.specs.Plans.{Plan}
@@ -14,16 +15,16 @@ most_steps (Skeleton f b levels) = 3 * levels + 2
 most_steps (Restore f b levels) = 3 * levels + 1
 most_steps (Spectrum f b levels) = levels + levels * (levels + 1) / 2 + levels + 1
 
--- the same where the element is a full rectangle that holds its origin
+-- the most steps of a plan where the element is a full rectangle that holds its origin
 abbrev pub most_steps_by_box : GranOp → ℕ
 most_steps_by_box (Spectrum f b levels) = 3 * levels + 1
 most_steps_by_box o = most_steps o
 
 -- the levels are within their limits
 abbrev pub LevelsFit : GranOp → Type 0
-LevelsFit (Skeleton f b levels) = levels ≤ 254
-LevelsFit (Restore f b levels) = levels ≤ 254
-LevelsFit (Spectrum f b levels) = levels ≤ 32
+LevelsFit (Skeleton f b levels) = levels ≤ TURN_LIMIT
+LevelsFit (Restore f b levels) = levels ≤ TURN_LIMIT
+LevelsFit (Spectrum f b levels) = levels ≤ SIZE_LIMIT
 
 -- the plan makes the operation by this element
 abbrev pub MakesGran : GranOp → List Offset → Plan → Type 0

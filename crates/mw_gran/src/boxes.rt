@@ -1,6 +1,7 @@
 //! Boxes of offsets, multiplied.
 
 ghost use Rattle.std.specs.Prelude.{◌≡◌, ◌≤◌};
+ghost use Rattle.mw_model.specs.declared.limits.TheConstants.{SIZE_LIMIT};
 ghost use Rattle.mw_plan.specs.Steps.{IsNearBox};
 ghost use Rattle.mw_gran.specs.Boxes.{multiplied};
 
@@ -9,7 +10,7 @@ use mw_model::OffsetBox;
 /// The box with all four bounds multiplied.
 pub(crate) fn multiplied(offsets: OffsetBox, n: u32) -> OffsetBox
     requires near { IsNearBox offsets }
-    requires small { n ≤ 32 }
+    requires small { n ≤ SIZE_LIMIT }
     ensures { result ≡ multiplied n offsets }
 {
     let n = n as i32;

@@ -6,7 +6,8 @@
 //! planes would be kept all that time.
 
 ghost use Rattle.std.specs.Prelude.{◌≡◌, ◌≤◌, List, length, IfOk};
-ghost use Rattle.mw_model.specs.declared.places.Offset.{Offset};
+ghost use Rattle.mw_model.specs.declared.limits.TheConstants.{TURN_LIMIT};
+ghost use Rattle.mw_model.specs.declared.offsets.Offset.{Offset};
 ghost use Rattle.mw_plan.specs.mw_step_task.Meanings.{meaning};
 ghost use Rattle.mw_plan.specs.Seen.{source};
 ghost use Rattle.mw_gran.specs.Turns.{Erodes, Slides, after_erosions};
@@ -34,7 +35,7 @@ pub(crate) fn erosions(
     count: u16,
     room: usize,
 ) -> Result<Plan, NoMemory>
-    requires { count ≤ 254 }
+    requires { count ≤ TURN_LIMIT }
     ensures count { IfOk result (λ p. length p ≡ count) }
     ensures erodes { (b : List Offset) → Slides b (meaning steps.now.erode) (meaning steps.now.dilate) → IfOk result (Erodes b count) }
 {

@@ -3,13 +3,13 @@
 
 ghost use Rattle.std.specs.Prelude.{◌≡◌, ℕ, List};
 ghost use Rattle.mw_plan.specs.mw_element.Figures.{FillsBox};
-ghost use Rattle.mw_model.specs.declared.places.Offset.{Offset};
-ghost use Rattle.mw_model.specs.declared.places.OffsetBox.{OffsetBox};
+ghost use Rattle.mw_model.specs.declared.offsets.Offset.{Offset};
+ghost use Rattle.mw_model.specs.declared.offsets.OffsetBox.{OffsetBox};
 ghost use Rattle.mw_model.specs.Flat.{erosion, dilation, reflected};
 ghost use Rattle.mw_model.specs.Iterates.{times};
 ghost use Rattle.mw_model.specs.Laws.{HoldsOrigin};
 ghost use Rattle.mw_model.specs.Pictures.{Picture, IsPicture};
-ghost use Rattle.mw_model.specs.Places.{box_offsets};
+ghost use Rattle.mw_model.specs.Rectangles.{box_offsets};
 ghost use Rattle.mw_plan.specs.Steps.{turned_box};
 ghost use Rattle.mw_gran.specs.Boxes.{multiplied};
 

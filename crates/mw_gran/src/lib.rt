@@ -21,7 +21,7 @@ mod texts;
 
 pub use curves::Curve;
 pub use mw_plan::{GranOp, Input, NoMemory, OffsetBox, Plan, PlanFault};
-pub use plans::plan_of;
+pub use plans::{plan_of, plan_of_any};
 
 // What lower crates offer, for the crates above.
 pub mod plan {

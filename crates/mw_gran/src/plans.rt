@@ -3,7 +3,8 @@
 ghost use Rattle.std.specs.Prelude.{◌≡◌, ◌+◌, ◌*◌, ◌≤◌, true, length, IfOk};
 ghost use Rattle.std.specs.Arc.{arc_value};
 ghost use Rattle.mw_plan.specs.mw_element.Figures.{FillsBox};
-ghost use Rattle.mw_model.specs.declared.places.OffsetBox.{OffsetBox};
+ghost use Rattle.mw_model.specs.declared.limits.TheConstants.{STEP_LIMIT, TURN_LIMIT};
+ghost use Rattle.mw_model.specs.declared.offsets.OffsetBox.{OffsetBox};
 ghost use Rattle.mw_model.specs.Iterates.{skeleton, restoration};
 ghost use Rattle.mw_model.specs.Laws.{HoldsOrigin};
 ghost use Rattle.mw_model.specs.Pictures.{IsPicture, IsSet};
@@ -24,7 +25,7 @@ use std::sync::Arc;
 
 /// The plan of a skeleton by this element.
 fn skeleton_by(alloc: Global, element: &Arc<Element>, levels: u32) -> Result<Plan, NoMemory>
-    requires { levels ≤ 254 }
+    requires { levels ≤ TURN_LIMIT }
     ensures { IfOk result (λ p. Draws IsSet p (3 * levels + 2) (skeleton (arc_value element.now).offsets levels)) }
 {
     let steps = sliding_steps(alloc, element)?;
@@ -33,7 +34,7 @@ fn skeleton_by(alloc: Global, element: &Arc<Element>, levels: u32) -> Result<Pla
 
 /// The plan of a restoration by this element.
 fn restoration_by(alloc: Global, element: &Arc<Element>, levels: u32) -> Result<Plan, NoMemory>
-    requires { levels ≤ 254 }
+    requires { levels ≤ TURN_LIMIT }
     ensures { IfOk result (λ p. Draws IsPicture p (3 * levels + 1) (restoration (arc_value element.now).offsets levels)) }
 {
     let steps = sliding_steps(alloc, element)?;
@@ -65,8 +66,26 @@ pub fn plan_of(
     ensures plan { IfOk result (IsPlanOf (Op.Gran op.now) a.entry b.entry c.entry) }
     ensures steps { IfOk result (λ p. length p ≤ most_steps op.now) }
     ensures boxed { IfOk result (λ p. (box : OffsetBox) → FillsBox box (offsets_of_input b.entry) → HoldsOrigin (offsets_of_input b.entry) → length p ≤ most_steps_by_box op.now) }
-    ensures short { IfOk result (λ p. length p ≤ 896) }
+    ensures short { IfOk result (λ p. length p ≤ STEP_LIMIT) }
 {
     shape_of(&Op::Gran(*op), a, b, c)?;
     Ok(steps(alloc, op, b.element())?)
+}
+
+/// A plan of an operation of either kind on these inputs, or its first fault as `mw_plan::shape_of` tells it, or `NoMemory`
+/// where memory was refused.
+pub fn plan_of_any(
+    alloc: Global,
+    op: &Op,
+    a: Input<'_>,
+    b: Input<'_>,
+    c: Input<'_>,
+) -> Result<Plan, PlanFault>
+    ensures refused { IsRefusedBy (fault_in op.now a.entry b.entry c.entry) result }
+    ensures plan { IfOk result (IsPlanOf op.now a.entry b.entry c.entry) }
+{
+    match op {
+        Op::Flat(flat) => mw_plan::plan_of(alloc, flat, a, b, c),
+        Op::Gran(gran) => plan_of(alloc, gran, a, b, c),
+    }
 }

@@ -8,7 +8,8 @@
 //! next. If it stood in its turn, all sets would be made and kept before the first dilation.
 
 ghost use Rattle.std.specs.Prelude.{◌≡◌, ◌+◌, ◌*◌, ◌<◌, ◌≤◌, ℕ, List, length, IfOk};
-ghost use Rattle.mw_model.specs.declared.places.Offset.{Offset};
+ghost use Rattle.mw_model.specs.declared.limits.TheConstants.{TURN_LIMIT};
+ghost use Rattle.mw_model.specs.declared.offsets.Offset.{Offset};
 ghost use Rattle.mw_model.specs.Iterates.{restoration};
 ghost use Rattle.mw_model.specs.Pictures.{IsPicture};
 ghost use Rattle.mw_plan.specs.mw_step_task.Meanings.{meaning};
@@ -23,7 +24,7 @@ use std::alloc::Global;
 
 /// A plan that begins with the sets of the levels from 1 to `levels + 1`.
 fn rising(alloc: Global, levels: u16) -> Result<Plan, NoMemory>
-    requires { levels ≤ 254 }
+    requires { levels ≤ TURN_LIMIT }
     ensures { IfOk result (HasLevels (levels + 1)) }
 {
     let mut plan = Plan::with_capacity(alloc, 3 * usize::from(levels) + 1)?;
@@ -58,7 +59,7 @@ pub(crate) fn restoration(
     steps: &SlidingSteps,
     levels: u16,
 ) -> Result<Plan, NoMemory>
-    requires { levels ≤ 254 }
+    requires { levels ≤ TURN_LIMIT }
     ensures { (b : List Offset) → Slides b (meaning steps.now.erode) (meaning steps.now.dilate) → IfOk result (λ p. Draws IsPicture p (3 * levels + 1) (restoration b levels)) }
 {
     let mut plan = rising(alloc, levels)?;

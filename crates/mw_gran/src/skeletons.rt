@@ -7,12 +7,13 @@
 //! are taken first: at the head of the plan the empty marks would be taken last of all, and all marks wait for them.
 
 ghost use Rattle.std.specs.Prelude.{◌≡◌, ◌+◌, ◌*◌, ◌<◌, ◌≤◌, ℕ, List, Some, length, IfOk};
-ghost use Rattle.mw_model.specs.declared.places.Offset.{Offset};
+ghost use Rattle.mw_model.specs.declared.limits.TheConstants.{TURN_LIMIT};
+ghost use Rattle.mw_model.specs.declared.offsets.Offset.{Offset};
 ghost use Rattle.mw_model.specs.Iterates.{skeleton};
 ghost use Rattle.mw_model.specs.Pictures.{IsSet};
 ghost use Rattle.mw_plan.specs.mw_step_task.Meanings.{meaning};
 ghost use Rattle.mw_plan.specs.Seen.{source};
-ghost use Rattle.mw_gran.specs.Growing.{GoesOn, Shows};
+ghost use Rattle.mw_gran.specs.Growing.{PlanGoesOn, ShowsOperator};
 ghost use Rattle.mw_gran.specs.Turns.{AreMarks, Draws, MarksResidues, Slides, marked, steps_to_marks};
 
 use crate::eroding::{eroded, erosions};
@@ -25,10 +26,10 @@ use std::alloc::Global;
 /// The marks so far, or the empty marks.
 fn marks_or_blank(plan: &mut Plan, marks: Option<Source>, levels: u16) -> Result<Source, NoMemory>
     requires few { length plan.old < 65536 }
-    requires small { levels ≤ 254 }
+    requires small { levels ≤ TURN_LIMIT }
     ensures count { IfOk result (λ _. length plan.new ≡ length plan.old + steps_to_marks marks) }
-    ensures goes_on { IfOk result (λ _. GoesOn IsSet plan.old plan.new) }
-    ensures shows { (b : List Offset) (n : ℕ) → AreMarks b levels n plan.old marks → IfOk result (λ s. Shows IsSet plan.new (source s) (marked b levels n)) }
+    ensures goes_on { IfOk result (λ _. PlanGoesOn IsSet plan.old plan.new) }
+    ensures shows { (b : List Offset) (n : ℕ) → AreMarks b levels n plan.old marks → IfOk result (λ s. ShowsOperator IsSet plan.new (source s) (marked b levels n)) }
 {
     match marks {
         Some(marks) => Ok(marks),
@@ -45,7 +46,7 @@ fn turn(
     n: u16,
 ) -> Result<Source, NoMemory>
     requires few { length plan.old < 65000 }
-    requires small { levels ≤ 254 }
+    requires small { levels ≤ TURN_LIMIT }
     requires below { n < levels }
     ensures count { IfOk result (λ _. length plan.new ≡ length plan.old + steps_to_marks marks + 2) }
     ensures marks { (b : List Offset) → Slides b (meaning steps.now.erode) (meaning steps.now.dilate) → MarksResidues b levels n plan.old marks → IfOk result (λ m. MarksResidues b levels (n + 1) plan.new (Some m)) }
@@ -59,7 +60,7 @@ fn turn(
 
 /// The plan of a skeleton.
 pub(crate) fn skeleton(alloc: Global, steps: &SlidingSteps, levels: u16) -> Result<Plan, NoMemory>
-    requires { levels ≤ 254 }
+    requires { levels ≤ TURN_LIMIT }
     ensures { (b : List Offset) → Slides b (meaning steps.now.erode) (meaning steps.now.dilate) → IfOk result (λ p. Draws IsSet p (3 * levels + 2) (skeleton b levels)) }
 {
     let mut plan = erosions(alloc, steps, levels, 3 * usize::from(levels) + 2)?;

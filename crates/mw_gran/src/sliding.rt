@@ -3,7 +3,7 @@
 ghost use Rattle.std.specs.Prelude.{◌≡◌, IfOk, IfSome, IfNone};
 ghost use Rattle.std.specs.Arc.{arc_value};
 ghost use Rattle.mw_plan.specs.mw_element.Figures.{FillsBox};
-ghost use Rattle.mw_model.specs.declared.places.OffsetBox.{OffsetBox};
+ghost use Rattle.mw_model.specs.declared.offsets.OffsetBox.{OffsetBox};
 ghost use Rattle.mw_model.specs.Laws.{HoldsOrigin};
 ghost use Rattle.mw_plan.specs.mw_step_task.Meanings.{meaning};
 ghost use Rattle.mw_plan.specs.Steps.{IsNearBox};

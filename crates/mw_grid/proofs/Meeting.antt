@@ -5,7 +5,7 @@ use Rattle.std.proofs.Math.Bool.{and_comm, and_assoc}
 use Rattle.std.proofs.Math.Nat.{mul-le-mul_left, div-div-eq-div-mul}
 use Rattle.std.proofs.lemmas.Bool.{cases_lt, cases_eq, eq-eqb, ne_eqb}
 use Rattle.std.proofs.lemmas.Nat.{div-mul-add, mod-mul-add, div-add-mod'}
-use Rattle.mw_model.specs.declared.places.Reach.{Reach}
+use Rattle.mw_model.specs.declared.offsets.Reach.{Reach}
 use Rattle.mw_model.specs.Tasks.{share}
 use Rattle.mw_grid.specs.declared.blocks.Block.{Block}
 use Rattle.mw_grid.specs.Counts.{in_range, count_below}

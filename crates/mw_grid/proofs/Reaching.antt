@@ -2,10 +2,10 @@
 use Rattle.std.proofs.Common.{◌≡◌, ℕ, ◌+◌, ◌-◌, ◌<◌, ◌≤◌, ℤ, pos, ◌+ℤ◌, ◌≤ℤ◌, min, List, [], ◌∷◌, arith}
 use Rattle.std.proofs.lemmas.Int.{ints}
 use Rattle.std.specs.List.{AllByRecursion}
-use Rattle.mw_model.specs.declared.places.Offset.{Offset}
-use Rattle.mw_model.specs.declared.places.Rect.{Rect}
-use Rattle.mw_model.specs.declared.places.Reach.{Reach}
-use Rattle.mw_model.specs.Places.{grown, IsWithin, Leads, WithinReach}
+use Rattle.mw_model.specs.declared.offsets.Offset.{Offset}
+use Rattle.mw_model.specs.declared.offsets.Rect.{Rect}
+use Rattle.mw_model.specs.declared.offsets.Reach.{Reach}
+use Rattle.mw_model.specs.Rectangles.{grown, IsWithin, Leads, WithinReach}
 use Rattle.mw_grid.specs.Rectangles.{Reaches, ReachesAll}
 
 -- along one line

@@ -3,8 +3,8 @@ use Rattle.std.proofs.Common.{◌≡◌, ℕ, zero, suc, ◌+◌, ◌-◌, ◌*�
 use Rattle.std.specs.List.{range_with_len, AllByRecursion}
 use Rattle.std.proofs.lemmas.Nat.{div-mul-add, mod-mul-add, mod_below, div-add-mod'}
 use Rattle.std.proofs.lemmas.List.FromFn.{length-map-range_with_len, get_or-map-range_with_len}
-use Rattle.mw_model.specs.declared.places.Rect.{Rect}
-use Rattle.mw_model.specs.Places.{rect, tile_of, Holds, HoldsOnce, CoverOnce, IsWithin}
+use Rattle.mw_model.specs.declared.offsets.Rect.{Rect}
+use Rattle.mw_model.specs.Rectangles.{rect, tile_of, Holds, HoldsOnce, CoverOnce, IsWithin}
 use Rattle.mw_grid.specs.Grids.{Tiling, columns_of, rows_of, tile_count, tile_at, tiles_of}
 use Rattle.mw_grid.proofs.Lines.{piece_has, piece_only, piece_counts, piece_begins, number_of, row_less}
 

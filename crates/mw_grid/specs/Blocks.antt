@@ -1,7 +1,7 @@
 -- Blocks of tiles (own).
 use Rattle.std.specs.Prelude.{ℕ, ◌/◌, ◌%◌, ◌≤◌, Bool, ◌&&◌}
-use Rattle.mw_model.specs.declared.places.Reach.{Reach}
-use Rattle.mw_model.specs.Places.{grown}
+use Rattle.mw_model.specs.declared.offsets.Reach.{Reach}
+use Rattle.mw_model.specs.Rectangles.{grown}
 use Rattle.mw_model.specs.Tasks.{meets}
 use Rattle.mw_grid.specs.declared.blocks.Block.{Block}
 use Rattle.mw_grid.specs.Counts.{in_range}

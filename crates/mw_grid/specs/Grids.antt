@@ -2,8 +2,8 @@
 use Rattle.std.specs.Prelude.{◌≡◌, ℕ, ◌+◌, ◌-◌, ◌*◌, ◌/◌, ◌%◌, ◌≤◌, min, List, map}
 use Rattle.std.specs.List.{range_with_len}
 use Rattle.mw_model.specs.declared.limits.TheConstants.{SIDE_LIMIT, TILE_SIDE_LIMIT, TILE_SIDE_UNIT}
-use Rattle.mw_model.specs.declared.places.Rect.{Rect}
-use Rattle.mw_model.specs.Places.{rect}
+use Rattle.mw_model.specs.declared.offsets.Rect.{Rect}
+use Rattle.mw_model.specs.Rectangles.{rect}
 
 -- A frame that is cut into squares of one side; the last of a row and of a column end with the frame.
 pub record Tiling : Type 0 where

@@ -43,7 +43,7 @@ pub fn side_ok(side: u32) -> bool
 
 impl Grid {
     ghost use Rattle.std.specs.Prelude.{◌≡◌, ◌+◌, ◌<◌, ◌≤◌};
-    ghost use Rattle.mw_model.specs.Places.{grown, IsWithin};
+    ghost use Rattle.mw_model.specs.Rectangles.{grown, IsWithin};
     ghost use Rattle.mw_grid.specs.Grids.{columns_of, rows_of, tile_count, tile_at, tiling};
 
     /// The tiles of a frame of so many columns and rows, squares of this side in pixels.

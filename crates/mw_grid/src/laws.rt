@@ -1,6 +1,6 @@
 //! What tiles and their windows are for.
 
-ghost use Rattle.mw_model.specs.Places.{grown, IsWithin, WithinReach, CoverOnce};
+ghost use Rattle.mw_model.specs.Rectangles.{grown, IsWithin, WithinReach, CoverOnce};
 ghost use Rattle.mw_grid.specs.Rectangles.{ReachesAll};
 ghost use Rattle.mw_grid.specs.Grids.{tile_count, tile_at, tiles_of};
 ghost use Rattle.std.specs.Prelude.{◌<◌};

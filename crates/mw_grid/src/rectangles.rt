@@ -1,7 +1,7 @@
 //! Rectangles of a frame, in pixels.
 
 ghost use Rattle.std.specs.Prelude.{◌≡◌, ◌↔◌, IsTrue};
-ghost use Rattle.mw_model.specs.Places.{grown, IsWithin};
+ghost use Rattle.mw_model.specs.Rectangles.{grown, IsWithin};
 ghost use Rattle.mw_grid.specs.Rectangles.{whole_frame};
 
 use mw_model::{Reach, Rect};

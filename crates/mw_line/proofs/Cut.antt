@@ -8,7 +8,7 @@ use Rattle.std.proofs.lemmas.List.{drop_min, take_min}
 use Rattle.std.specs.Int.{div_ceil, int_max, int_min}
 use Rattle.mw_line.specs.Line.{combines, cut_to, line_at, places_within, samples_between}
 use Rattle.mw_line.proofs.Padded.{size_positive}
-use Rattle.mw_model.specs.Places.{nonnegative, span}
+use Rattle.mw_model.specs.Rectangles.{nonnegative, span}
 use Rattle.mw_model.proofs.Nonnegative.{nonnegative_is}
 
 -- one block more

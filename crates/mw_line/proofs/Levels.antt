@@ -1,10 +1,10 @@
 -- Sliding extrema of levels, and the operators.
 use Rattle.std.proofs.Common.{◌≡◌, ℕ, ◌+◌, ◌*◌, ◌<◌, List, [], ◌∷◌, Some, min, max, fold, slice_get, refl, ap, sym, arith, ◌∙◌}
-use Rattle.mw_model.specs.declared.places.Offset.{Offset}
-use Rattle.mw_model.specs.declared.places.Rect.{Rect}
+use Rattle.mw_model.specs.declared.offsets.Offset.{Offset}
+use Rattle.mw_model.specs.declared.offsets.Rect.{Rect}
 use Rattle.mw_model.specs.Flat.{under, least, greatest, erosion, dilation}
 use Rattle.mw_model.specs.Pictures.{Picture, IsPicture, sample}
-use Rattle.mw_model.specs.Places.{IsWithin}
+use Rattle.mw_model.specs.Rectangles.{IsWithin}
 use Rattle.mw_model.specs.Rasters.{Raster, cell_at}
 use Rattle.mw_model.proofs.ImagePlaces.{sample-redrawn}
 use Rattle.mw_tile.specs.mw_pixel.Images.{raster_of}

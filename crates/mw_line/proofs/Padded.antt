@@ -5,7 +5,7 @@ use Rattle.std.proofs.lemmas.List.{drop_min, drop-drop}
 use lib.IntN.{neg_ℤ, nat_abs}
 use borrow.Author.Differences.{up, down}
 use Rattle.mw_line.specs.Line.{line_at}
-use Rattle.mw_model.specs.Places.{nonnegative, span}
+use Rattle.mw_model.specs.Rectangles.{nonnegative, span}
 use Rattle.mw_model.proofs.Nonnegative.{nonnegative_is}
 use Rattle.mw_line.proofs.Folds.{IsExtremum}
 

@@ -4,7 +4,7 @@ use Rattle.std.proofs.lemmas.Bool.{cases_lt, lt-ltb, le-ltb}
 use Rattle.std.proofs.lemmas.Int.{ints}
 use Rattle.std.proofs.lemmas.Option.{slice_get_past}
 use Rattle.mw_model.specs.Rasters.{raster, cell_at}
-use Rattle.mw_model.specs.Places.{nonnegative, span}
+use Rattle.mw_model.specs.Rectangles.{nonnegative, span}
 use Rattle.mw_lane.specs.Shifted.{at_place}
 use Rattle.mw_model.proofs.mw_facts.Elements.{slice_get-drop, slice_get-take}
 use Rattle.mw_model.proofs.Nonnegative.{nonnegative_is}

@@ -7,7 +7,7 @@ use Rattle.std.proofs.lemmas.Int.{ints}
 use Rattle.std.proofs.lemmas.List.{append-nil, drop_all, get_or-take, get_or-drop}
 use Rattle.mw_model.specs.Flat.{under, least, greatest, erosion, dilation}
 use Rattle.mw_model.specs.Pictures.{Picture, IsPicture, sample, sample_at}
-use Rattle.mw_model.specs.Places.{nonnegative, span}
+use Rattle.mw_model.specs.Rectangles.{nonnegative, span}
 use Rattle.mw_model.proofs.Covers.{sample_at_in}
 use Rattle.mw_model.proofs.ImagePlaces.{sample-redrawn}
 use Rattle.mw_model.proofs.Nonnegative.{nonnegative_is}

@@ -5,8 +5,8 @@ use Rattle.std.specs.List.{AllByRecursion, cons_option}
 use Rattle.std.proofs.lemmas.Nat.{div_below, mod_below, div-add-mod'}
 use Rattle.std.proofs.lemmas.Option.{get_or_from_slice_get, slice_get_within}
 use Rattle.mw_model.proofs.mw_facts.Numbers.{factor-positive}
-use Rattle.mw_model.specs.declared.places.Offset.{Offset}
-use Rattle.mw_model.specs.declared.places.Rect.{Rect}
+use Rattle.mw_model.specs.declared.offsets.Offset.{Offset}
+use Rattle.mw_model.specs.declared.offsets.Rect.{Rect}
 use Rattle.mw_model.specs.Rasters.{Raster, raster, cell_at, Sight, seen_under}
 use Rattle.mw_model.specs.Windows.{View, seen_at}
 use Rattle.mw_line.specs.Extrema.{IsSlidingExtremum}

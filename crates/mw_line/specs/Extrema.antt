@@ -1,7 +1,7 @@
 -- Extrema of samples that stand equally far apart, and of what is seen under an element at each place of a tile.
 use Rattle.std.specs.Prelude.{◌≡◌, ℕ, zero, suc, ◌+◌, ◌*◌, ◌<◌, List, length, fold, Some, slice_get, slice_index_or}
-use Rattle.mw_model.specs.declared.places.Offset.{Offset}
-use Rattle.mw_model.specs.declared.places.Rect.{Rect}
+use Rattle.mw_model.specs.declared.offsets.Offset.{Offset}
+use Rattle.mw_model.specs.declared.offsets.Rect.{Rect}
 use Rattle.mw_model.specs.Rasters.{Raster, Sight, seen_under}
 
 -- the extremum of the sample at p and of the m samples after it, each `stride` further on than the one before

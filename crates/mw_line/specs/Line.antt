@@ -2,9 +2,9 @@
 use Rattle.std.specs.Prelude.{ℕ, ◌+◌, ◌*◌, ℤ, pos, ◌+ℤ◌, List, fold, slice_range}
 use Rattle.std.specs.Int.{div_ceil, int_max, int_min}
 use lib.IntN.{neg_ℤ}
-use Rattle.mw_model.specs.declared.places.Offset.{Offset}
+use Rattle.mw_model.specs.declared.offsets.Offset.{Offset}
 use Rattle.mw_model.specs.Pictures.{Picture}
-use Rattle.mw_model.specs.Places.{nonnegative, span, box_offsets}
+use Rattle.mw_model.specs.Rectangles.{nonnegative, span, box_offsets}
 
 -- the samples at the places from first to last, both included, that exist
 abbrev pub samples_between : {A : Type 0} → List A → ℤ → ℤ → List A

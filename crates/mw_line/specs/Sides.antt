@@ -1,6 +1,6 @@
 -- One side of a box, along one axis, and what a tile can see of a window through it.
 use Rattle.std.specs.Prelude.{ℕ, ◌+◌, ◌^◌, ◌<◌, ◌≤◌, ℤ, pos, ◌+ℤ◌, ◌≤ℤ◌, ◌<ℤ◌}
-use Rattle.mw_model.specs.Places.{span}
+use Rattle.mw_model.specs.Rectangles.{span}
 
 -- From `side` places of a tile, the places of a box from a to b that come before `skipped`, and those from
 -- `skipped + count` on, lead past the `len` places of a window.

@@ -2,7 +2,7 @@
 ghost use Rattle.std.specs.Prelude.{◌≡◌, ℕ, ◌+◌, ◌*◌, ◌<◌, ◌≤◌, ◌^◌, ◌≤ℤ◌, ◌+ℤ◌, pos, ◌++◌, length, drop, min, replicate, IfOk};
 ghost use lib.IntN.{neg_ℤ};
 ghost use Rattle.mw_line.specs.Line.{cut_to};
-ghost use Rattle.mw_model.specs.Places.{nonnegative, span};
+ghost use Rattle.mw_model.specs.Rectangles.{nonnegative, span};
 
 use crate::NoMemory;
 use mw_tile::pixel::{Pixel, copies};

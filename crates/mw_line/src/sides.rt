@@ -1,7 +1,7 @@
 //! Which places of a box's side can see a window from a tile, along one axis.
 ghost use Rattle.std.specs.Prelude.{◌≡◌, ℕ, ◌+◌, ◌≤◌, ◌^◌, pos, negsuc, ◌+ℤ◌, ◌-ℤ◌, ◌≤ℤ◌};
 ghost use Rattle.mw_model.specs.declared.limits.TheConstants.{FAR_LIMIT};
-ghost use Rattle.mw_model.specs.Places.{nonnegative, span};
+ghost use Rattle.mw_model.specs.Rectangles.{nonnegative, span};
 ghost use Rattle.mw_line.specs.Sides.{IsSeenSide};
 
 use mw_model::{OffsetBox, Rect};

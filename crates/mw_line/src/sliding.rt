@@ -4,7 +4,7 @@
 //! window's length.
 ghost use Rattle.std.specs.Prelude.{◌≡◌, ℕ, ◌+◌, ◌*◌, ◌<◌, ◌≤◌, ◌^◌, ◌≤ℤ◌, length, slice_index_or, OnOk, OnErr};
 ghost use Rattle.mw_line.specs.Line.{combines, line_at, places_within};
-ghost use Rattle.mw_model.specs.Places.{span};
+ghost use Rattle.mw_model.specs.Rectangles.{span};
 
 use crate::padding::{cut_to, padded, places, places_after, places_before, places_skipped};
 use crate::passes::slide;

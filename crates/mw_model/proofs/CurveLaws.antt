@@ -4,7 +4,7 @@ use Rattle.std.specs.Prelude.{codes, decimal}
 use Rattle.std.specs.List.{range_with_len, flat_map}
 use Rattle.std.proofs.lemmas.List.FromFn.{length-map-range_with_len, get_or-map-range_with_len}
 use Rattle.std.proofs.Math.Nat.{sub-zero}
-use Rattle.mw_model.specs.declared.places.Offset.{Offset}
+use Rattle.mw_model.specs.declared.offsets.Offset.{Offset}
 use Rattle.mw_model.specs.Pictures.{Picture}
 use Rattle.mw_model.specs.Iterates.{volume, spectrum}
 use Rattle.mw_model.specs.Curves.{line, volume_lines, fall_lines, rest_line}
@@ -15,7 +15,7 @@ length-spectrum b depth f = length-map-range_with_len (λ n. volume b n f) 0 (de
 pub spectrum_at : (b : List Offset) (depth n : ℕ) (f : Picture) → n ≤ depth → get_or (spectrum b depth f) n 0 ≡ volume b n f
 spectrum_at b depth n f le = get_or-map-range_with_len (λ n. volume b n f) 0 (depth + 1) n n 0 (omega arith) (omega arith)
 
--- the same text at each number of a range, whatever the list
+-- a text that is equal at each number of a range, whatever the list
 same_lines : (g h : ℕ → List ℕ) (a n : ℕ) → ((k : ℕ) → a ≤ k → k < a + n → g k ≡ h k) → flat_map g (range_with_len a n) ≡ flat_map h (range_with_len a n)
 same_lines g h a zero each = refl
 same_lines g h a (suc n) each =

@@ -6,7 +6,7 @@ use Rattle.std.proofs.lemmas.Bool.{cases_lt, cases_Bool}
 use Rattle.std.proofs.lemmas.List.Elements.{All-from_get_or, All-head, Contains-append_right}
 use Rattle.mw_model.specs.declared.shapes.Kind.{Kind}
 use Rattle.mw_model.specs.declared.shapes.Kind.TheVariants.{Bit, Grey}
-use Rattle.mw_model.specs.declared.places.Offset.{Offset}
+use Rattle.mw_model.specs.declared.offsets.Offset.{Offset}
 use Rattle.mw_model.specs.Pictures.{Picture, sample, drawn, redrawn, IsPicture}
 use Rattle.mw_model.specs.Flat.{under, least, greatest, erosion, dilation, minus, threshold, rank, put_in_order, in_rising_order}
 use Rattle.mw_model.specs.Iterates.{is_residue, residue_mark, times, skeleton}

@@ -1,6 +1,6 @@
 -- The order of images, and the adjunction.
 use Rattle.std.proofs.Common.{◌≡◌, ℕ, ◌<◌, ◌≤◌, List, refl, ap, arith}
-use Rattle.mw_model.specs.declared.places.Offset.{Offset}
+use Rattle.mw_model.specs.declared.offsets.Offset.{Offset}
 use Rattle.mw_model.specs.Pictures.{Picture, sample, redrawn}
 use Rattle.mw_model.specs.Flat.{under, least, greatest, erosion, dilation, reflected, opening, closing}
 use Rattle.mw_model.specs.Laws.{Below, SameShape}

@@ -1,7 +1,7 @@
 -- Operators done n times, and the volumes of openings.
 use Rattle.std.proofs.Common.{◌≡◌, ℕ, zero, suc, ◌+◌, ◌*◌, ◌<◌, ◌≤◌, List, [], ◌∷◌, length, get_or, refl, ap, sym, subst, arith, ◌∙◌}
 use Rattle.std.specs.List.{sum, fold}
-use Rattle.mw_model.specs.declared.places.Offset.{Offset}
+use Rattle.mw_model.specs.declared.offsets.Offset.{Offset}
 use Rattle.mw_model.specs.Pictures.{Picture}
 use Rattle.mw_model.specs.Flat.{under, least, greatest, erosion, dilation, reflected, opening}
 use Rattle.mw_model.specs.Iterates.{times, volume}

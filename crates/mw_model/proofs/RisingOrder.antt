@@ -9,7 +9,7 @@ use Rattle.std.proofs.lemmas.List.Sums.{sum_by-cons}
 use Rattle.std.proofs.lemmas.List.Sorted.{IsPermutation-refl, IsPermutation-cons, IsPermutation-sym, IsPermutation-trans, IsPermutation-swap, length_permutation, Contains-permutation, sum_by-IsPermutation}
 use Rattle.mw_facts.proofs.Alls.{all-get_or, all-weaker}
 use Rattle.mw_facts.proofs.Numbers.{one_if, one_if-le}
-use Rattle.mw_model.specs.declared.places.Offset.{Offset}
+use Rattle.mw_model.specs.declared.offsets.Offset.{Offset}
 use Rattle.mw_model.specs.Pictures.{Picture, sample}
 use Rattle.mw_model.specs.Flat.{under, rank, put_in_order, in_rising_order}
 use Rattle.mw_model.proofs.ImagePlaces.{sample-redrawn}

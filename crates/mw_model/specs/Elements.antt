@@ -5,9 +5,9 @@ use Rattle.std.specs.List.{range_with_len, list_any, IsDistinct, AllByRecursion}
 use Rattle.mw_model.specs.declared.codes.Code.{Code}
 use Rattle.mw_model.specs.declared.codes.Code.TheVariants as code
 use Rattle.mw_model.specs.declared.limits.TheConstants.{ELEMENT_SIDE_LIMIT}
-use Rattle.mw_model.specs.declared.places.Offset.{Offset}
-use Rattle.mw_model.specs.declared.places.Reach.{Reach}
-use Rattle.mw_model.specs.Places.{nonnegative}
+use Rattle.mw_model.specs.declared.offsets.Offset.{Offset}
+use Rattle.mw_model.specs.declared.offsets.Reach.{Reach}
+use Rattle.mw_model.specs.Rectangles.{nonnegative}
 use Rattle.mw_model.specs.Rasters.{Raster}
 use Rattle.mw_model.specs.Flat.{greatest}
 use Rattle.mw_model.specs.Bitmaps.{SidesFit, IsBitmap, BitmapRefuses}
@@ -27,7 +27,7 @@ abbrev pub offsets_in_row : Raster ℕ → ℕ → ℕ → ℕ → List Offset
 offsets_in_row f ox oy y =
     filter_map (λ x. if slice_index f.cells (y * f.width + x) == 1 then Some (offset_from ox oy x y) else None) (range_with_len 0 f.width)
 
--- the same of all rows, from the top
+-- the places of all rows with a pixel of value 1, from the top
 abbrev pub offsets_of : Raster ℕ → ℕ → ℕ → List Offset
 offsets_of f ox oy = flat_map (λ y. offsets_in_row f ox oy y) (range_with_len 0 f.height)
 
@@ -35,7 +35,7 @@ offsets_of f ox oy = flat_map (λ y. offsets_in_row f ox oy y) (range_with_len 0
 abbrev pub figure_of : Raster ℕ → ℕ → ℕ → Figure
 figure_of f ox oy = record { width = f.width; height = f.height; offsets = offsets_of f ox oy }
 
--- the same column and row
+-- both offsets have one column and one row
 abbrev pub same_offset : Offset → Offset → Bool
 same_offset a b = int_eq a.dx b.dx && int_eq a.dy b.dy
 

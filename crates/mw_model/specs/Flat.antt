@@ -1,7 +1,7 @@
 -- Flat operators, after Soille, Morphological Image Analysis. The rules at the edge of the frame are this project's own.
 use Rattle.std.specs.Prelude.{ℕ, ◌-◌, ◌&&◌, ◌==◌, List, [], ◌∷◌, length, map, filter_map, pos, ◌+ℤ◌, neg_ℤ, nat_le, min, max, if◌then◌else◌, slice_index}
 use Rattle.mw_model.specs.declared.shapes.Kind.TheVariants.{Bit}
-use Rattle.mw_model.specs.declared.places.Offset.{Offset}
+use Rattle.mw_model.specs.declared.offsets.Offset.{Offset}
 use Rattle.mw_model.specs.Pictures.{Picture, sample, sample_at, drawn, redrawn}
 
 -- the samples under the element placed at column x of row y, within the frame

@@ -2,7 +2,7 @@
 use Rattle.std.specs.Prelude.{ℕ, zero, suc, ◌+◌, ◌&&◌, not, ◌==◌, Bool, List, map, flat_map, sum, max, if◌then◌else◌, pos, ◌-ℤ◌}
 use Rattle.std.specs.List.{range_with_len}
 use Rattle.mw_model.specs.declared.shapes.Kind.TheVariants.{Bit, Grey}
-use Rattle.mw_model.specs.declared.places.Offset.{Offset}
+use Rattle.mw_model.specs.declared.offsets.Offset.{Offset}
 use Rattle.mw_model.specs.Pictures.{Picture, sample, drawn, redrawn}
 use Rattle.mw_model.specs.Flat.{erosion, dilation, reflected, opening}
 

@@ -17,7 +17,7 @@ pub mod Replies
 pub mod Scripts
 pub mod Receipts
 pub mod Rasters
-pub mod Places
+pub mod Rectangles
 pub mod Windows
 pub mod PlanSteps
 pub mod Plans

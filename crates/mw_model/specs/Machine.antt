@@ -53,7 +53,7 @@ status_reply t s outcome.Memory = reply.OutOfMemory t
 status_reply t s (outcome.Input i) = reply.BadInput t i
 status_reply t s outcome.Released = reply.Released t
 
--- the same for FETCH, which shows what is done
+-- how an entry stands, as FETCH tells it, which shows what is done
 abbrev pub fetch_reply : ℕ → Shape → Outcome → Reply
 fetch_reply t s outcome.Done = reply.Shown t
 fetch_reply t s o = status_reply t s o

@@ -28,6 +28,6 @@ name_of text = record { bytes = padded text }
 abbrev pub spelling : Name → List ℕ
 spelling name = before_first is_zero name.bytes
 
--- the same bytes, so the same name
+-- both names have equal bytes
 abbrev pub same_name : Name → Name → Bool
 same_name a b = pointwise nat_eq a.bytes b.bytes

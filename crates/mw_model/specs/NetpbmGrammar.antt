@@ -168,8 +168,8 @@ kind_of RawBits = Bit
 kind_of format = Grey
 
 -- the image under a header with these samples
-abbrev pub picture : Header → List ℕ → Picture
-picture h samples = record { kind = kind_of h.format; width = h.width; height = h.height; maxval = h.maxval; samples = samples }
+abbrev pub picture_under : Header → List ℕ → Picture
+picture_under h samples = record { kind = kind_of h.format; width = h.width; height = h.height; maxval = h.maxval; samples = samples }
 
 -- the bytes are a file of this image
 pub record IsFile (bytes : List ℕ) (i : Picture) : Type 0 where
@@ -180,4 +180,4 @@ pub record IsFile (bytes : List ℕ) (i : Picture) : Type 0 where
   pub maxval_fits : MaxvalFits header.maxval
   pub is_raster : IsRaster header raster i.samples
   pub within : AllByRecursion (λ s. s ≤ header.maxval) i.samples
-  pub shows : i ≡ picture header i.samples
+  pub shows : i ≡ picture_under header i.samples

@@ -1,10 +1,10 @@
 -- Steps of plans: what each gives at a place, of what is seen of its sources (own).
 use Rattle.std.specs.Prelude.{ℕ, ◌-◌, ◌&&◌, ◌==◌, List, [], ◌∷◌, length, pos, min, max, nat_le, if◌then◌else◌, unwrap_or, slice_index}
-use Rattle.mw_model.specs.declared.places.Offset.{Offset}
-use Rattle.mw_model.specs.declared.places.OffsetBox.{OffsetBox}
+use Rattle.mw_model.specs.declared.offsets.Offset.{Offset}
+use Rattle.mw_model.specs.declared.offsets.OffsetBox.{OffsetBox}
 use Rattle.mw_model.specs.declared.shapes.Kind.{Kind}
 use Rattle.mw_model.specs.declared.shapes.Kind.TheVariants as kind
-use Rattle.mw_model.specs.Places.{box_offsets}
+use Rattle.mw_model.specs.Rectangles.{box_offsets}
 use Rattle.mw_model.specs.Rasters.{Sight, seen_under}
 use Rattle.mw_model.specs.Flat.{least, greatest, in_rising_order}
 

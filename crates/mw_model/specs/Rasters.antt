@@ -1,7 +1,7 @@
 -- Rectangles of cells, whatever the cells are.
 use Rattle.std.specs.Prelude.{ℕ, ◌+◌, ◌*◌, ◌&&◌, List, ℤ, pos, negsuc, ◌+ℤ◌, nat_lt, cond, Option, None, slice_get}
 use Rattle.std.specs.List.{filter_map}
-use Rattle.mw_model.specs.declared.places.Offset.{Offset}
+use Rattle.mw_model.specs.declared.offsets.Offset.{Offset}
 
 -- The cells stand by rows from the top, and in each row from the left.
 pub record Raster (A : Type 0) : Type 0 where

@@ -1,9 +1,9 @@
 -- What stands in the machine's table, and why a call is refused: the first case that holds (own).
 use Rattle.std.specs.Prelude.{not, unwrap_or, ℕ, ◌||◌, ◌&&◌, Bool, true, false, nat_lt, nat_le, List, [], ◌∷◌, length, map, slice_index_or, Option, Some, None, position}
 use Rattle.std.specs.Option.{option_map_or}
-use Rattle.mw_model.specs.declared.limits.TheConstants.{ENTRY_LIMIT, LEVEL_LIMIT}
+use Rattle.mw_model.specs.declared.limits.TheConstants.{ENTRY_LIMIT, LEVEL_LIMIT, SIZE_LIMIT, TURN_LIMIT}
 use Rattle.mw_model.specs.declared.names.Name.{Name}
-use Rattle.mw_model.specs.declared.places.Offset.{Offset}
+use Rattle.mw_model.specs.declared.offsets.Offset.{Offset}
 use Rattle.mw_model.specs.declared.shapes.Kind.TheVariants as kind
 use Rattle.mw_model.specs.declared.shapes.Shape.{Shape}
 use Rattle.mw_model.specs.declared.shapes.Shape.TheVariants as shape
@@ -184,9 +184,9 @@ abbrev pub op_cases : Table → List (Option Value) → Op → List (Option Code
 op_cases w values (op.Flat (flat.Rank f b k)) = origin_case w values b ∷ param_case 1 (length (offsets_at w values b)) k ∷ []
 op_cases w values (op.Flat (flat.Threshold f k)) = param_case 0 LEVEL_LIMIT k ∷ []
 op_cases w values (op.Flat (flat.HitMiss f hit miss)) = when (overlaps (offsets_at w values hit) (offsets_at w values miss)) code.Overlap ∷ []
-op_cases w values (op.Gran (gran.Skeleton f b levels)) = binary_case w f ∷ origin_case w values b ∷ param_case 1 254 levels ∷ []
-op_cases w values (op.Gran (gran.Restore f b levels)) = param_case 1 254 levels ∷ []
-op_cases w values (op.Gran (gran.Spectrum f b levels)) = param_case 1 32 levels ∷ []
+op_cases w values (op.Gran (gran.Skeleton f b levels)) = binary_case w f ∷ origin_case w values b ∷ param_case 1 TURN_LIMIT levels ∷ []
+op_cases w values (op.Gran (gran.Restore f b levels)) = param_case 1 TURN_LIMIT levels ∷ []
+op_cases w values (op.Gran (gran.Spectrum f b levels)) = param_case 1 SIZE_LIMIT levels ∷ []
 op_cases w values o = []
 
 -- what is wrong with a payload

@@ -4,7 +4,8 @@ use Rattle.std.specs.Option.{option_map_or}
 use Rattle.std.specs.List.{range_with_len, list_all, list_any, AllByRecursion}
 use Rattle.mw_model.specs.declared.calls.LogItem.{LogItem}
 use Rattle.mw_model.specs.declared.calls.Outcome.TheVariants as outcome
-use Rattle.mw_model.specs.Places.{CoverOnce}
+use Rattle.mw_model.specs.declared.limits.TheConstants.{TASK_LIMIT}
+use Rattle.mw_model.specs.Rectangles.{CoverOnce}
 use Rattle.mw_model.specs.Pictures.{Picture}
 use Rattle.mw_model.specs.Values.{Value, value_at, tickets}
 use Rattle.mw_model.specs.Refusals.{Table, outcome_at, submission_at, is_pending, is_there}
@@ -58,7 +59,7 @@ pub record IsWork (m : Machine) (t : ℕ) (p : Progress) : Type 0 where
   pub started : length p.started ≡ task_count p
   pub finished : length p.finished ≡ task_count p
   pub places : length p.placed ≡ task_count p
-  pub small : task_count p ≤ 4194304
+  pub small : task_count p ≤ TASK_LIMIT
   pub unfinished : 1 ≤ remaining_tasks p
   pub begun : (n : ℕ) → flag p.finished n ≡ true → flag p.started n ≡ true
   pub there : (n : ℕ) → flag p.started n ≡ true → inputs_there m.table t ≡ true

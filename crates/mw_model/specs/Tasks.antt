@@ -1,8 +1,8 @@
 -- Tasks: a tile of a step, what it reads, when it is ready, and what it makes (own).
 use Rattle.std.specs.Prelude.{ℕ, ◌+◌, ◌*◌, ◌/◌, ◌%◌, Bool, false, not, ◌&&◌, ◌||◌, nat_lt, nat_eq, if◌then◌else◌, List, [], ◌∷◌, length, map, flat_map, sum, count_by, Option, slice_index_or}
 use Rattle.std.specs.List.{range_with_len, list_all, list_any}
-use Rattle.mw_model.specs.declared.places.Rect.{Rect}
-use Rattle.mw_model.specs.Places.{tile_of, grown}
+use Rattle.mw_model.specs.declared.offsets.Rect.{Rect}
+use Rattle.mw_model.specs.Rectangles.{tile_of, grown}
 use Rattle.mw_model.specs.Pictures.{Picture}
 use Rattle.mw_model.specs.Elements.{reach_of}
 use Rattle.mw_model.specs.PlanSteps.{PlanStep, Minus, looks_at, step_at}

@@ -10,7 +10,7 @@ use Rattle.mw_model.specs.declared.submissions.Command.{Command}
 use Rattle.mw_model.specs.declared.submissions.Command.TheVariants as command
 use Rattle.mw_model.specs.declared.submissions.Inputs.{Inputs}
 use Rattle.mw_model.specs.declared.submissions.Submission.{Submission}
-use Rattle.mw_model.specs.declared.places.Offset.{Offset}
+use Rattle.mw_model.specs.declared.offsets.Offset.{Offset}
 use Rattle.mw_model.specs.Pictures.{Picture}
 use Rattle.mw_model.specs.Elements.{Figure}
 use Rattle.mw_model.specs.Flat.{erosion, dilation, opening, closing, gradient, white_top_hat, black_top_hat, rank, threshold, hit_or_miss}

@@ -1,6 +1,6 @@
 -- Rectangles of samples that were cut from a frame.
 use Rattle.std.specs.Prelude.{ℕ, List, pos, ◌-ℤ◌}
-use Rattle.mw_model.specs.declared.places.Rect.{Rect}
+use Rattle.mw_model.specs.declared.offsets.Rect.{Rect}
 use Rattle.mw_model.specs.Rasters.{raster, cell_at, Sight}
 
 -- Cells of a place of a frame. They stand by rows.

@@ -1,5 +1,8 @@
 //! What a session asks of the machine, what it answers, and what its log keeps.
 
+ghost use Rattle.std.specs.Prelude.{◌≡◌};
+ghost use Rattle.mw_model.specs.Refusals as words;
+
 use crate::{Code, Name, Op, Shape};
 
 /// How an entry stands.
@@ -14,6 +17,46 @@ pub enum Outcome {
     Input(u32),
     /// Done once, and let go since.
     Released,
+}
+
+impl Outcome {
+    /// The value is still to come.
+    pub fn is_pending(&self) -> bool
+        ensures { result ≡ words.is_pending self.now }
+    {
+        matches!(self, Outcome::Pending)
+    }
+
+    /// The value is there.
+    pub fn is_done(&self) -> bool
+        ensures { result ≡ words.is_done self.now }
+    {
+        matches!(self, Outcome::Done)
+    }
+
+    /// Cancelled, out of memory, or failed by an input.
+    pub fn is_dead(&self) -> bool
+        ensures { result ≡ words.is_dead self.now }
+    {
+        matches!(
+            self,
+            Outcome::Cancelled | Outcome::Memory | Outcome::Input(_)
+        )
+    }
+
+    /// The value was there, and was let go since.
+    pub fn is_released(&self) -> bool
+        ensures { result ≡ words.is_released self.now }
+    {
+        matches!(self, Outcome::Released)
+    }
+
+    /// Done, or released since.
+    pub fn is_there(&self) -> bool
+        ensures { result ≡ words.is_there self.now }
+    {
+        self.is_done() || self.is_released()
+    }
 }
 
 /// What became of a payload: the shape of what it holds, or why it holds nothing.

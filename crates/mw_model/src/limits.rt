@@ -16,6 +16,24 @@ pub const LEVEL_LIMIT: u32 = 65_535;
 /// The most columns or rows of an element's bitmap.
 pub const ELEMENT_SIDE_LIMIT: u32 = 255;
 
+/// The most offsets of an element: as many as its bitmap has places.
+pub const OFFSET_LIMIT: usize = 65_025;
+
+/// The most turns of a skeleton or of a restoration.
+pub const TURN_LIMIT: u32 = 254;
+
+/// The most sizes of a spectrum.
+pub const SIZE_LIMIT: u32 = 32;
+
+/// The most steps of a plan.
+pub const STEP_LIMIT: usize = 896;
+
+/// The most tasks under one ticket: each step of a plan for each tile of a frame.
+pub const TASK_LIMIT: usize = 4_194_304;
+
+/// The most times that a session reads.
+pub const READ_LIMIT: u64 = 4_294_967_295;
+
 /// The least side of a tile in pixels, of which each other is a multiple: the pixels of a word.
 pub const TILE_SIDE_UNIT: u32 = 64;
 

@@ -1,7 +1,7 @@
 -- One element in place of another, and of two in a row.
 use Rattle.std.proofs.Common.{◌≡◌, ℕ, ◌<◌, List, arith}
 use Rattle.std.proofs.Math.Nat.{le_antisymm}
-use Rattle.mw_model.specs.declared.places.Offset.{Offset}
+use Rattle.mw_model.specs.declared.offsets.Offset.{Offset}
 use Rattle.mw_model.specs.Pictures.{Picture}
 use Rattle.mw_model.specs.Flat.{under, least, greatest, erosion, dilation}
 use Rattle.mw_model.proofs.ImagePlaces.{drawn_same}

@@ -11,17 +11,17 @@ use Rattle.mw_model.specs.Pictures.{IsPicture, IsImage}
 use Rattle.mw_model.specs.Elements.{same_offset, IsFigure}
 use Rattle.mw_model.specs.Refusals.{ticket_of}
 use Rattle.mw_model.specs.Machine.{Machine, Run, start_state, after, CanFinish, CanDie}
-use Rattle.mw_model_laws.specs.MachineExamples.{Arrival, AreWithPayloads, logged, state_after, named, five_samples, three_in_a_row, two_runs, finished_erosion, starved_erosion}
+use Rattle.mw_model_laws.specs.MachineExamples.{Arrival, AreWithPayloads, logged, state_after, named, five_in_a_row, three_in_a_row, two_runs, finished_erosion, starved_erosion}
 use Rattle.mw_model_laws.proofs.RunReplay.{run_join}
 
 pub calls_run : (m : Machine) (arrivals : List Arrival) → AreWithPayloads arrivals → Run m (logged m arrivals) (state_after m arrivals)
 calls_run m [] h = refl
 calls_run m (q ∷ arrivals) h = (after m q.call q.payload, (q.payload, h.0, refl, refl), calls_run (after m q.call q.payload) arrivals h.1)
 
-five_picture : IsPicture five_samples
+five_picture : IsPicture five_in_a_row
 five_picture = search arith
 
-five_image : IsImage five_samples
+five_image : IsImage five_in_a_row
 five_image = record { picture = five_picture; maxval = (omega arith, omega arith); width = (omega arith, omega arith); height = (omega arith, omega arith); area = omega arith }
 
 -- no offset stands twice
@@ -37,7 +37,7 @@ three_figure = record {
 }
 
 two_runs_start : Run start_state (logged start_state two_runs) (state_after start_state two_runs)
-two_runs_start = calls_run start_state two_runs ((five_samples, refl, five_image, refl), ((three_in_a_row, refl, three_figure, refl), (refl, (refl, tt))))
+two_runs_start = calls_run start_state two_runs ((five_in_a_row, refl, five_image, refl), ((three_in_a_row, refl, three_figure, refl), (refl, (refl, tt))))
 
 pub erosion_run : Run start_state (logged start_state two_runs ++ item.Finished 2 ∷ item.Call (call.Fetch (named "a")) (reply.Shown 2) ∷ item.Call (call.Status (named "c")) (reply.Pending 3) ∷ []) finished_erosion
 unfolding ticket_of

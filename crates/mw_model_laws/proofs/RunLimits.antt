@@ -1,8 +1,9 @@
 -- A result is an image within the limits of a file.
 use Rattle.std.proofs.Common.{◌≡◌, ℕ, ◌+◌, ◌&&◌, leb, List, [], ◌∷◌, map, Option, None, refl, sym, subst, arith}
 use Rattle.std.proofs.lemmas.Bool.{leb-true, and_parts}
+use Rattle.mw_model.specs.declared.limits.TheConstants.{TURN_LIMIT}
 use Rattle.mw_model.specs.declared.names.Name.{Name}
-use Rattle.mw_model.specs.declared.places.Offset.{Offset}
+use Rattle.mw_model.specs.declared.offsets.Offset.{Offset}
 use Rattle.mw_model.specs.declared.shapes.Kind.{Kind}
 use Rattle.mw_model.specs.declared.shapes.Kind.TheVariants.{Bit, Grey}
 use Rattle.mw_model.specs.declared.operations.Op.{Op}
@@ -89,7 +90,7 @@ flat_limits m (flat.HitMiss f hit miss) shapes limits h =
     subst P (sym a.values) (IsImage-of_shape a.image g refl (minus_picture (erosion a.first.offsets a.image) (dilation a.second.offsets a.image) (erosion_picture a.first.offsets a.image)) image)
 
 -- the depth of a skeleton is within its limits
-depth_fits : (levels : ℕ) → param_case 1 254 levels ≡ None → FitsKind Grey (levels + 1)
+depth_fits : (levels : ℕ) → param_case 1 TURN_LIMIT levels ≡ None → FitsKind Grey (levels + 1)
 depth_fits levels h =
     let parts = and_parts (leb 1 levels) (leb levels 254) (when_not (leb 1 levels && leb levels 254) code.Param h) in
     let low = leb-true 1 levels parts.0 in
@@ -101,9 +102,9 @@ gran_limits : (m : Machine) (o : GranOp) → ValuesHaveShapes m → ValuesWithin
 gran_limits m (gran.Skeleton f b levels) shapes limits h r =
     let a = wanted_both m f b shapes h in
     let image = a.limits limits in
-    let x = first_none (binary_case m.table f) (origin_case m.table m.payloads b ∷ param_case 1 254 levels ∷ []) r in
-    let y = first_none (origin_case m.table m.payloads b) (param_case 1 254 levels ∷ []) x.1 in
-    let z = first_none (param_case 1 254 levels) [] y.1 in
+    let x = first_none (binary_case m.table f) (origin_case m.table m.payloads b ∷ param_case 1 TURN_LIMIT levels ∷ []) r in
+    let y = first_none (origin_case m.table m.payloads b) (param_case 1 TURN_LIMIT levels ∷ []) x.1 in
+    let z = first_none (param_case 1 TURN_LIMIT levels) [] y.1 in
     drawn_limits m f b a (λ e. skeleton e levels)
     (IsImage-of_size a.image (skeleton a.element.offsets levels a.image) (skeleton_picture a.element.offsets levels a.image) (depth_fits levels z.0) refl refl image)
 gran_limits m (gran.Restore f b levels) shapes limits h r =

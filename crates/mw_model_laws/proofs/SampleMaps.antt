@@ -2,7 +2,7 @@
 use Rattle.std.proofs.Common.{◌≡◌, ℕ, ◌-◌, ◌<◌, ◌≤◌, ◌&&◌, List, [], ◌∷◌, map, ℤ, pos, ◌+ℤ◌, Some, None, min, max, refl, ap, sym, arith, ◌∙◌, inl, inr}
 use Rattle.std.specs.Prelude.{nat_le, ◌==◌, if◌then◌else◌}
 use Rattle.std.proofs.lemmas.Bool.{cases_lt, cases_eq, le-leb, lt-leb, eq-eqb, ne_eqb}
-use Rattle.mw_model.specs.declared.places.Offset.{Offset}
+use Rattle.mw_model.specs.declared.offsets.Offset.{Offset}
 use Rattle.mw_model.specs.declared.shapes.Kind.TheVariants.{Bit}
 use Rattle.mw_model.specs.Pictures.{Picture, sample, sample_at}
 use Rattle.mw_model.specs.Flat.{under, least, greatest, erosion, dilation, reflected, opening, closing, threshold, complement, hit_or_miss, set_hit_or_miss}

@@ -1,6 +1,6 @@
 -- Complements, and operators on sets.
 use Rattle.std.proofs.Common.{◌≡◌, ℕ, ◌-◌, ◌≤◌, List, refl, ap, sym, subst, arith, ◌∙◌}
-use Rattle.mw_model.specs.declared.places.Offset.{Offset}
+use Rattle.mw_model.specs.declared.offsets.Offset.{Offset}
 use Rattle.mw_model.specs.Pictures.{Picture, sample, IsPicture, IsSet}
 use Rattle.mw_model.specs.Flat.{under, least, erosion, dilation, reflected, opening, closing, complement, threshold, hit_or_miss, set_hit_or_miss}
 use Rattle.mw_model.specs.Iterates.{restoration}

@@ -1,7 +1,7 @@
 -- Small images and elements, for worked examples.
 use Rattle.std.specs.Prelude.{ℕ, List, [], ◌∷◌, pos, negsuc, length}
 use Rattle.mw_model.specs.declared.shapes.Kind.TheVariants.{Bit, Grey}
-use Rattle.mw_model.specs.declared.places.Offset.{Offset}
+use Rattle.mw_model.specs.declared.offsets.Offset.{Offset}
 use Rattle.mw_model.specs.Pictures.{Picture}
 
 -- one row of samples

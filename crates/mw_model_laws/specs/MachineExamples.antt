@@ -72,8 +72,8 @@ abbrev pub opens : Name → Name → Name → Arrival
 opens n f b = asks (call.Run n (op.Flat (flat.Opening f b)))
 
 -- five samples in a row
-abbrev pub five_samples : Picture
-five_samples = record { kind = Grey; width = 5; height = 1; maxval = 9; samples = 3 ∷ 1 ∷ 4 ∷ 1 ∷ 5 ∷ [] }
+abbrev pub five_in_a_row : Picture
+five_in_a_row = record { kind = Grey; width = 5; height = 1; maxval = 9; samples = 3 ∷ 1 ∷ 4 ∷ 1 ∷ 5 ∷ [] }
 
 -- three pixels in a row, with the origin between them
 abbrev pub three_in_a_row : Figure
@@ -89,7 +89,7 @@ right_alone = record { width = 2; height = 1; offsets = record { dx = pos 1; dy 
 
 -- an image and an element
 abbrev pub two_given : List Arrival
-two_given = loads (named "f") five_samples ∷ gives (named "b") three_in_a_row ∷ []
+two_given = loads (named "f") five_in_a_row ∷ gives (named "b") three_in_a_row ∷ []
 
 -- an image and two elements, of which the last is without its origin
 abbrev pub three_given : List Arrival

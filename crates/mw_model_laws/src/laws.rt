@@ -3,7 +3,7 @@
 ghost use Rattle.std.specs.Prelude.{fold, min, max, ◌≡◌, [], ◌∷◌, ◌++◌, ◌↔◌, ◌⊎◌, ◌+◌, ◌-◌, ◌*◌, ℕ, ◌<◌, ◌≤◌, List, length, All, Contains, count_by, nat_le, nat_lt, slice_index, flat_map, IsTrue, codes, decimal};
 ghost use Rattle.std.specs.List.{range_with_len};
 ghost use Rattle.std.specs.List.Sorted.{IsNonDecreasing, IsPermutation};
-ghost use Rattle.mw_model.specs.declared.places.Offset.{Offset};
+ghost use Rattle.mw_model.specs.declared.offsets.Offset.{Offset};
 ghost use Rattle.mw_model.specs.Pictures.{Picture, sample, IsPicture, IsSet};
 ghost use Rattle.mw_model.specs.Flat.{under, minus, rank, in_rising_order, least, greatest, erosion, dilation, opening, closing, reflected, gradient, white_top_hat, black_top_hat, threshold, complement, hit_or_miss, set_hit_or_miss};
 ghost use Rattle.mw_model.specs.Iterates.{times, rectangle, volume, spectrum, is_residue, level_set, skeleton, restoration};

@@ -10,7 +10,7 @@ ghost use Rattle.mw_model.specs.declared.calls.Reply.TheVariants as reply;
 ghost use Rattle.mw_model.specs.declared.calls.LogItem.TheVariants as item;
 ghost use Rattle.mw_model.specs.Values.{ImageValue, value_at};
 ghost use Rattle.mw_model.specs.Machine.{Machine, Run, reply_to, start_state, values};
-ghost use Rattle.mw_model_laws.specs.MachineExamples.{AreWithPayloads, Arrival, cancelled_erosion, faulty_calls, finished_erosion, five_samples, logged, named, released_image, replies, starved_erosion, state_after, two_runs};
+ghost use Rattle.mw_model_laws.specs.MachineExamples.{AreWithPayloads, Arrival, cancelled_erosion, faulty_calls, finished_erosion, five_in_a_row, logged, named, released_image, replies, starved_erosion, state_after, two_runs};
 
 /// Calls that come one after another, each with its payload, make a run.
 pub fn calls_make_runs()
@@ -23,7 +23,7 @@ pub fn erosion_is_done()
     ensures run { Run start_state (logged start_state two_runs ++ item.Finished 2 ∷ item.Call (call.Fetch (named "a")) (reply.Shown 2) ∷ item.Call (call.Status (named "c")) (reply.Pending 3) ∷ [])
         finished_erosion }
     ensures replies { replies start_state two_runs ≡ reply.Accepted 0 ∷ reply.Accepted 1 ∷ reply.Accepted 2 ∷ reply.Accepted 3 ∷ [] }
-    ensures value { value_at (values finished_erosion) 2 ≡ Some (ImageValue (record five_samples { samples = 1 ∷ 1 ∷ 1 ∷ 1 ∷ 1 ∷ [] })) }
+    ensures value { value_at (values finished_erosion) 2 ≡ Some (ImageValue (record five_in_a_row { samples = 1 ∷ 1 ∷ 1 ∷ 1 ∷ 1 ∷ [] })) }
 {}
 
 /// The first command dies for want of memory, and the second fails by it.

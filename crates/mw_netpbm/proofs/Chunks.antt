@@ -5,7 +5,7 @@ use Rattle.std.proofs.lemmas.Grind.{flat_map-append}
 use Rattle.std.proofs.lemmas.List.{append-nil, take-append-drop, drop-drop, drop-take, get_or-take, length-take-le, take_at, drop_at}
 use Rattle.mw_model.specs.NetpbmGrammar.{bits_of}
 use Rattle.mw_model.specs.NetpbmWriting.{byte_of, packed, two_bytes}
-use Rattle.mw_netpbm.specs.Rasters.{row_bits, words_of}
+use Rattle.mw_netpbm.specs.Rasters.{row_bits, two_byte_samples}
 use Rattle.mw_netpbm_plain.specs.SetWords.{in_words}
 use Rattle.mw_netpbm.specs.SetWords.{pixels_of}
 use Rattle.mw_netpbm_plain.proofs.InWords.{words_append, words_zeros, words_taken}
@@ -17,11 +17,11 @@ use Rattle.mw_netpbm.proofs.Turning.{length-pixels}
 one_block : (out new block rest left total : List ℕ) → left ≡ block ++ rest → out ++ left ≡ total → new ≡ out ++ block → new ++ rest ≡ total
 one_block out new block rest left total parts so_far e = rw (e, append_assoc) (ap (λ (xs : List ℕ). out ++ xs) (sym parts) ∙ so_far)
 
-pub words_block : (out new block bytes front after total : List ℕ) → 64 ≤ length bytes → front ≡ take 64 bytes → after ≡ drop 64 bytes → block ≡ words_of front → out ++ words_of bytes ≡ total → new ≡ out ++ block
-    → new ++ words_of after ≡ total
+pub words_block : (out new block bytes front after total : List ℕ) → 64 ≤ length bytes → front ≡ take 64 bytes → after ≡ drop 64 bytes → block ≡ two_byte_samples front → out ++ two_byte_samples bytes ≡ total → new ≡ out ++ block
+    → new ++ two_byte_samples after ≡ total
 words_block out new block bytes front after total le front-is after-is is so_far e =
-    let parts : words_of bytes ≡ block ++ words_of after = rw (is, front-is, after-is) (words_split 32 bytes le) in
-    one_block out new block (words_of after) (words_of bytes) total parts so_far e
+    let parts : two_byte_samples bytes ≡ block ++ two_byte_samples after = rw (is, front-is, after-is) (words_split 32 bytes le) in
+    one_block out new block (two_byte_samples after) (two_byte_samples bytes) total parts so_far e
 
 pub bytes_block : (out new block samples front after total : List ℕ) → front ≡ take 32 samples → after ≡ drop 32 samples → block ≡ flat_map two_bytes front → out ++ flat_map two_bytes samples ≡ total → new ≡ out ++ block
     → new ++ flat_map two_bytes after ≡ total

@@ -13,10 +13,10 @@ use Rattle.mw_model.specs.declared.formats.Format.TheVariants.{PlainBits, PlainG
 use Rattle.mw_model.specs.declared.formats.Header.{Header as Head}
 use Rattle.mw_netpbm_plain.specs.Reading.{◌>>=◌, Gives, Fails}
 use Rattle.mw_netpbm_plain.specs.Heading.{head_at, limits}
-use Rattle.mw_netpbm.specs.Rasters.{grey8_at, grey16_at, words_of, rows_bits, bits_at}
-use Rattle.mw_netpbm_plain.specs.Plain.{plain_at, pixel_at, sample_at}
+use Rattle.mw_netpbm.specs.Rasters.{grey8_at, grey16_at, two_byte_samples, rows_bits, bits_in_raster}
+use Rattle.mw_netpbm_plain.specs.Plain.{plain_at, pixel_in_text, sample_in_text}
 use Rattle.mw_netpbm.specs.Whole.{raster_as, image_at, reading}
-use Rattle.mw_model.specs.NetpbmGrammar.{IsLevels, IsRows, IsPixel, IsSample, RasterAs, IsRaster, BeginsImage, SizeFits, MaxvalFits, IsFile, picture}
+use Rattle.mw_model.specs.NetpbmGrammar.{IsLevels, IsRows, IsPixel, IsSample, RasterAs, IsRaster, BeginsImage, SizeFits, MaxvalFits, IsFile, picture_under}
 use Rattle.mw_netpbm_plain.proofs.Whole.{cond-chosen, sample_small}
 use Rattle.mw_netpbm_plain.proofs.Sides.{Within, bind_ok, guard_ok, ok_is, plain_length, plain_within}
 use Rattle.mw_netpbm.proofs.Sides.{grey8_ok, grey16_ok, bits_ok}
@@ -76,7 +76,7 @@ pub record Rastered (h : Head) (bytes : List ℕ) (i : Picture) : Type 0 where
   pub samples : List ℕ
   pub is_raster : IsRaster h bytes samples
   pub within : AllByRecursion (λ s. s ≤ h.maxval) samples
-  pub shows : i ≡ picture h samples
+  pub shows : i ≡ picture_under h samples
 
 -- of samples and a maxval that a clause of raster_as has
 levels_from : (w h m : ℕ) (bytes xs : List ℕ) → m ≤ 65535 → cond (ltb m 256) (grey8_at (h * w) m bytes) (grey16_at (h * w) m bytes) ≡ Ok xs
@@ -92,39 +92,39 @@ pub raster_from : (format : Format) (w h m : ℕ) (bytes : List ℕ) (i : Pictur
 unfolding raster_as
 raster_from PlainBits w h m bytes i low one e =
     let one_head : Head = record { format = PlainBits; width = w; height = h; maxval = 1 } in
-    let a = bind_ok (plain_at pixel_at (h * w) bytes) (λ xs. Ok (picture one_head xs)) i e in
+    let a = bind_ok (plain_at pixel_in_text (h * w) bytes) (λ xs. Ok (picture_under one_head xs)) i e in
     let made : Rastered one_head bytes i = record {
       samples = a.0;
-      is_raster = record { count = plain_length pixel_at (h * w) bytes a.0 a.1; spelled = plain_from pixel_at IsPixel pixel_parts (h * w) bytes a.0 a.1 };
-      within = plain_within pixel_at 1 (λ left b x f. (pixel_parts left b x f).3) (h * w) bytes a.0 a.1;
-      shows = sym (ok_is (picture one_head a.0) i a.2);
+      is_raster = record { count = plain_length pixel_in_text (h * w) bytes a.0 a.1; spelled = plain_from pixel_in_text IsPixel pixel_parts (h * w) bytes a.0 a.1 };
+      within = plain_within pixel_in_text 1 (λ left b x f. (pixel_parts left b x f).3) (h * w) bytes a.0 a.1;
+      shows = sym (ok_is (picture_under one_head a.0) i a.2);
     } in
     subst (λ k. Rastered (record { format = PlainBits; width = w; height = h; maxval = k }) bytes i) (sym one) made
 raster_from RawBits w h m bytes i low one e =
     let one_head : Head = record { format = RawBits; width = w; height = h; maxval = 1 } in
-    let a = bind_ok (bits_at w h bytes) (λ xs. Ok (picture one_head xs)) i e in
+    let a = bind_ok (bits_in_raster w h bytes) (λ xs. Ok (picture_under one_head xs)) i e in
     let all = bits_ok w h bytes a.0 a.1 in
     let made : Rastered one_head bytes i = record {
       samples = a.0;
       is_raster = record { count = all.2; spelled = subst (λ (ys : List ℕ). IsRows w h bytes ys) all.1 (rows_from w h bytes all.0) };
       within = all.3;
-      shows = sym (ok_is (picture one_head a.0) i a.2);
+      shows = sym (ok_is (picture_under one_head a.0) i a.2);
     } in
     subst (λ k. Rastered (record { format = RawBits; width = w; height = h; maxval = k }) bytes i) (sym one) made
 raster_from PlainGrey w h m bytes i low one e =
     let head : Head = record { format = PlainGrey; width = w; height = h; maxval = m } in
-    let a = bind_ok (plain_at (sample_at m) (h * w) bytes) (λ xs. Ok (picture head xs)) i e in
+    let a = bind_ok (plain_at (sample_in_text m) (h * w) bytes) (λ xs. Ok (picture_under head xs)) i e in
     record {
       samples = a.0;
-      is_raster = record { count = plain_length (sample_at m) (h * w) bytes a.0 a.1; spelled = plain_from (sample_at m) IsSample (λ left b x f. sample_parts m left b x low f) (h * w) bytes a.0 a.1 };
-      within = plain_within (sample_at m) m (λ left b x f. sample_small m left b x f) (h * w) bytes a.0 a.1;
-      shows = sym (ok_is (picture head a.0) i a.2);
+      is_raster = record { count = plain_length (sample_in_text m) (h * w) bytes a.0 a.1; spelled = plain_from (sample_in_text m) IsSample (λ left b x f. sample_parts m left b x low f) (h * w) bytes a.0 a.1 };
+      within = plain_within (sample_in_text m) m (λ left b x f. sample_small m left b x f) (h * w) bytes a.0 a.1;
+      shows = sym (ok_is (picture_under head a.0) i a.2);
     }
 raster_from RawGrey w h m bytes i low one e =
     let head : Head = record { format = RawGrey; width = w; height = h; maxval = m } in
-    let a = bind_ok (cond (ltb m 256) (grey8_at (h * w) m bytes) (grey16_at (h * w) m bytes)) (λ xs. Ok (picture head xs)) i e in
+    let a = bind_ok (cond (ltb m 256) (grey8_at (h * w) m bytes) (grey16_at (h * w) m bytes)) (λ xs. Ok (picture_under head xs)) i e in
     let l = levels_from w h m bytes a.0 low a.1 in
-    record { samples = a.0; is_raster = record { count = l.0; spelled = l.2 }; within = l.1; shows = sym (ok_is (picture head a.0) i a.2) }
+    record { samples = a.0; is_raster = record { count = l.0; spelled = l.2 }; within = l.1; shows = sym (ok_is (picture_under head a.0) i a.2) }
 
 pub fold_within : (xs : List ℕ) (a m : ℕ) → a ≤ m → Within m xs → fold max a xs ≤ m
 fold_within [] a m le w = le
@@ -139,7 +139,7 @@ grey8_whole count m xs len w =
     let t3 : ltb count (length xs) ≡ false = le-ltb _ _ (omega arith) in
     rw (t1, all, t2, t3) refl
 
-grey16_whole : (count m : ℕ) (bytes xs : List ℕ) → words_of bytes ≡ xs → length bytes ≡ 2 * count → Within m xs → grey16_at count m bytes ≡ Ok xs
+grey16_whole : (count m : ℕ) (bytes xs : List ℕ) → two_byte_samples bytes ≡ xs → length bytes ≡ 2 * count → Within m xs → grey16_at count m bytes ≡ Ok xs
 unfolding grey16_at
 grey16_whole count m bytes xs e len w =
     let all : take (2 * count) bytes ≡ bytes = take_all (2 * count) bytes (omega arith) in
@@ -148,8 +148,8 @@ grey16_whole count m bytes xs e len w =
     let t3 : ltb (2 * count) (length bytes) ≡ false = le-ltb _ _ (omega arith) in
     rw (t1, all, e, t2, t3) refl
 
-bits_whole : (w h : ℕ) (bytes xs : List ℕ) → rows_bits w h bytes ≡ xs → length bytes ≡ h * ((w + 7) / 8) → bits_at w h bytes ≡ Ok xs
-unfolding bits_at
+bits_whole : (w h : ℕ) (bytes xs : List ℕ) → rows_bits w h bytes ≡ xs → length bytes ≡ h * ((w + 7) / 8) → bits_in_raster w h bytes ≡ Ok xs
+unfolding bits_in_raster
 bits_whole w h bytes xs e len =
     let t1 : ltb (length bytes) (h * ((w + 7) / 8)) ≡ false = le-ltb _ _ (omega (arith, len)) in
     let t3 : ltb (h * ((w + 7) / 8)) (length bytes) ≡ false = le-ltb _ _ (omega (arith, len)) in
@@ -163,18 +163,18 @@ levels_whole w h m bytes xs len within is =
     ]
 
 pub raster_read : (format : Format) (w h m : ℕ) (bytes xs : List ℕ) → m ≤ 65535 → SetMaxval format m → length xs ≡ h * w → Within m xs → RasterAs format w h m bytes xs
-    → raster_as format w h m bytes ≡ Ok (picture (record { format = format; width = w; height = h; maxval = m }) xs)
+    → raster_as format w h m bytes ≡ Ok (picture_under (record { format = format; width = w; height = h; maxval = m }) xs)
 unfolding raster_as
 raster_read PlainBits w h m bytes xs low one len within is =
-    let read : plain_at pixel_at (h * w) bytes ≡ Ok xs = subst (λ k. plain_at pixel_at k bytes ≡ Ok xs) len (plain_read pixel_at IsPixel m (λ left b s rest ss p l more le. pixel_whole left b s rest p) bytes xs is within) in
+    let read : plain_at pixel_in_text (h * w) bytes ≡ Ok xs = subst (λ k. plain_at pixel_in_text k bytes ≡ Ok xs) len (plain_read pixel_in_text IsPixel m (λ left b s rest ss p l more le. pixel_whole left b s rest p) bytes xs is within) in
     rw (read, one) refl
 raster_read RawBits w h m bytes xs low one len within is =
     let r = rows_read w h bytes xs is in
     rw (bits_whole w h bytes xs r.0 r.1, one) refl
 raster_read PlainGrey w h m bytes xs low one len within is =
-    let read : plain_at (sample_at m) (h * w) bytes ≡ Ok xs =
-    subst (λ k. plain_at (sample_at m) k bytes ≡ Ok xs) len
-    (plain_read (sample_at m) IsSample m (λ left b s rest ss p l more le. sample_whole m left b s rest p le low) bytes xs is within) in
+    let read : plain_at (sample_in_text m) (h * w) bytes ≡ Ok xs =
+    subst (λ k. plain_at (sample_in_text m) k bytes ≡ Ok xs) len
+    (plain_read (sample_in_text m) IsSample m (λ left b s rest ss p l more le. sample_whole m left b s rest p le low) bytes xs is within) in
     rw read refl
 raster_read RawGrey w h m bytes xs low one len within is = rw (levels_whole w h m bytes xs len within is) refl
 
@@ -191,7 +191,7 @@ file_of bytes i raster h begins size maxval r =
       maxval_fits = maxval;
       is_raster = subst (λ (ys : List ℕ). IsRaster h raster ys) (sym same) r.is_raster;
       within = subst (λ (ys : List ℕ). Within h.maxval ys) (sym same) r.within;
-      shows = r.shows ∙ ap (picture h) (sym same);
+      shows = r.shows ∙ ap (picture_under h) (sym same);
     }
 
 pub fitting_read : (bytes raster : List ℕ) (h : Head) → BeginsImage bytes h raster → SizeFits h.width h.height → MaxvalFits h.maxval → head_at bytes ≡ Ok (h, raster)

@@ -7,7 +7,7 @@ use lib.Lanes.{zip2, sel_l, Each1, chunk, number_l, digits_l, top}
 use mir.Val.{bits, hbits}
 use Rattle.mw_model.proofs.mw_facts.Numbers.{cond-max}
 use Rattle.mw_model.specs.NetpbmWriting.{two_bytes}
-use Rattle.mw_netpbm.specs.Rasters.{words_of}
+use Rattle.mw_netpbm.specs.Rasters.{two_byte_samples}
 use Rattle.mw_netpbm.specs.Swapping.{swap}
 use Rattle.mw_netpbm.proofs.Sides.{words_length}
 
@@ -23,8 +23,8 @@ swap_lanes (suc n) [] len fits = refl
 swap_lanes (suc n) (x ∷ xs) len fits = rw (swap_lane x fits.0.fits, swap_lanes n xs (omega arith) fits.1) refl
 
 -- bytes as words of the processor, swapped, are the words that they spell
-pub swapped_words : (n : ℕ) (bytes : List ℕ) → length bytes ≡ n + n → Each1 (Fits w8) bytes → map swap (digits_l 65536 n (number_l 256 bytes)) ≡ words_of bytes
-unfolding words_of
+pub swapped_words : (n : ℕ) (bytes : List ℕ) → length bytes ≡ n + n → Each1 (Fits w8) bytes → map swap (digits_l 65536 n (number_l 256 bytes)) ≡ two_byte_samples bytes
+unfolding two_byte_samples
 swapped_words zero [] len fits = refl
 swapped_words zero (b ∷ bs) len fits = absurd (omega arith)
 swapped_words (suc n) [] len fits = absurd (omega arith)
@@ -51,8 +51,8 @@ swapped_bytes (suc n) (w ∷ ws) len fits =
     let others : (swap w + 65536 * rest) / 256 / 256 ≡ rest = omega arith in
     ap (λ k. digits_l 256 k (swap w + 65536 * rest)) count ∙ rw (high, low, others, swapped_bytes n ws (omega arith) fits.1) refl
 
--- the same of the first lanes of slices
-pub words_loaded : (bytes words : List ℕ) → length bytes ≡ 64 → ((k : ℕ) → Fits w8 (get_or bytes k 0)) → words ≡ map swap (digits_l 65536 32 (number_l 256 (chunk 0 64 bytes))) → words ≡ words_of bytes
+-- words loaded from the first lanes of slices
+pub words_loaded : (bytes words : List ℕ) → length bytes ≡ 64 → ((k : ℕ) → Fits w8 (get_or bytes k 0)) → words ≡ map swap (digits_l 65536 32 (number_l 256 (chunk 0 64 bytes))) → words ≡ two_byte_samples bytes
 words_loaded bytes words long fits is =
     let whole : chunk 0 64 bytes ≡ bytes = take_all 64 bytes (omega arith) in
     is ∙ ap (λ (bs : List ℕ). map swap (digits_l 65536 32 (number_l 256 bs))) whole ∙ swapped_words 32 bytes long (Each1-from_get_or (Fits w8) bytes 0 (λ k lt. fits k))
@@ -64,8 +64,8 @@ bytes_stored samples words long fits is =
 
 -- ---- block by block
 
-pub words_split : (n : ℕ) (bytes : List ℕ) → n + n ≤ length bytes → words_of bytes ≡ words_of (take (n + n) bytes) ++ words_of (drop (n + n) bytes)
-unfolding words_of
+pub words_split : (n : ℕ) (bytes : List ℕ) → n + n ≤ length bytes → two_byte_samples bytes ≡ two_byte_samples (take (n + n) bytes) ++ two_byte_samples (drop (n + n) bytes)
+unfolding two_byte_samples
 words_split zero bytes le = refl
 words_split (suc n) [] le = absurd (omega arith)
 words_split (suc n) (a ∷ []) le = absurd (omega arith)
@@ -90,18 +90,18 @@ fold_lanes (x ∷ xs) (y ∷ ys) e =
     first x xs = ap (λ m. fold max m xs) (let e : max 0 x ≡ max x 0 = omega arith in e) ∙ fold_max xs x 0
 
 -- the lanes after one block more
-pub lanes_more : (lanes words bytes front after : List ℕ) (total : ℕ) → 64 ≤ length bytes → front ≡ take 64 bytes → after ≡ drop 64 bytes → length lanes ≡ 32 → words ≡ words_of front → fold max (fold max 0 lanes) (words_of bytes) ≡ total
-    → fold max (fold max 0 (sel_l (map (top (hbits w16)) (zip2 (λ a b. cond (ltb a b) (2 ^ bits w16 - 1) 0) lanes words)) words lanes)) (words_of after) ≡ total
+pub lanes_more : (lanes words bytes front after : List ℕ) (total : ℕ) → 64 ≤ length bytes → front ≡ take 64 bytes → after ≡ drop 64 bytes → length lanes ≡ 32 → words ≡ two_byte_samples front → fold max (fold max 0 lanes) (two_byte_samples bytes) ≡ total
+    → fold max (fold max 0 (sel_l (map (top (hbits w16)) (zip2 (λ a b. cond (ltb a b) (2 ^ bits w16 - 1) 0) lanes words)) words lanes)) (two_byte_samples after) ≡ total
 lanes_more lanes words bytes front after total le front-is after-is long is so_far =
-    let paired : length lanes ≡ length words = omega (arith, ap length is, ap (λ (bs : List ℕ). length (words_of bs)) front-is, words_length 32 (take 64 bytes) (omega (arith, length-take-le 64 bytes le))) in
-    let words-are : words ≡ words_of (take 64 bytes) = is ∙ ap words_of front-is in
-    let joined : fold max (fold max 0 lanes) (words_of (take 64 bytes) ++ words_of (drop 64 bytes)) ≡ total = ap (fold max (fold max 0 lanes)) (sym (words_split 32 bytes le)) ∙ so_far in
-    ap (λ ms. fold max (fold max 0 (sel_l ms words lanes)) (words_of after)) (tops_compared w16 ltb lanes words)
-    ∙ ap (λ m. fold max m (words_of after)) (fold_lanes lanes words paired)
-    ∙ ap (λ (ws : List ℕ). fold max (max (fold max 0 lanes) (fold max 0 ws)) (words_of after)) words-are
-    ∙ ap (λ (bs : List ℕ). fold max (max (fold max 0 lanes) (fold max 0 (words_of (take 64 bytes)))) (words_of bs)) after-is
-    ∙ ap (λ m. fold max m (words_of (drop 64 bytes))) (sym (fold_from (words_of (take 64 bytes)) (fold max 0 lanes)))
-    ∙ sym (fold_append (words_of (take 64 bytes)) (words_of (drop 64 bytes)) (fold max 0 lanes)) ∙ joined
+    let paired : length lanes ≡ length words = omega (arith, ap length is, ap (λ (bs : List ℕ). length (two_byte_samples bs)) front-is, words_length 32 (take 64 bytes) (omega (arith, length-take-le 64 bytes le))) in
+    let words-are : words ≡ two_byte_samples (take 64 bytes) = is ∙ ap two_byte_samples front-is in
+    let joined : fold max (fold max 0 lanes) (two_byte_samples (take 64 bytes) ++ two_byte_samples (drop 64 bytes)) ≡ total = ap (fold max (fold max 0 lanes)) (sym (words_split 32 bytes le)) ∙ so_far in
+    ap (λ ms. fold max (fold max 0 (sel_l ms words lanes)) (two_byte_samples after)) (tops_compared w16 ltb lanes words)
+    ∙ ap (λ m. fold max m (two_byte_samples after)) (fold_lanes lanes words paired)
+    ∙ ap (λ (ws : List ℕ). fold max (max (fold max 0 lanes) (fold max 0 ws)) (two_byte_samples after)) words-are
+    ∙ ap (λ (bs : List ℕ). fold max (max (fold max 0 lanes) (fold max 0 (two_byte_samples (take 64 bytes)))) (two_byte_samples bs)) after-is
+    ∙ ap (λ m. fold max m (two_byte_samples (drop 64 bytes))) (sym (fold_from (two_byte_samples (take 64 bytes)) (fold max 0 lanes)))
+    ∙ sym (fold_append (two_byte_samples (take 64 bytes)) (two_byte_samples (drop 64 bytes)) (fold max 0 lanes)) ∙ joined
   where
     fold_from : (xs : List ℕ) (a : ℕ) → fold max a xs ≡ max a (fold max 0 xs)
     fold_from xs a = ap (λ m. fold max m xs) (let e : a ≡ max a 0 = omega arith in e) ∙ fold_max xs a 0

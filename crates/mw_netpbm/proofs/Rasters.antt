@@ -5,20 +5,20 @@ use Rattle.std.proofs.Math.Seq.{take-append-add}
 use Rattle.std.proofs.lemmas.Bool.{cases_lt}
 use Rattle.std.proofs.lemmas.List.{append-nil, nil_from_length, take_all, take_at, drop_at, take-append-drop, length-take-le, take-append-le}
 use Rattle.mw_model.specs.NetpbmGrammar.{bits_of, IsPairs, IsRows}
-use Rattle.mw_netpbm.specs.Rasters.{words_of, row_bits, rows_bits}
+use Rattle.mw_netpbm.specs.Rasters.{two_byte_samples, row_bits, rows_bits}
 
 -- ---- pairs
 
-pub pairs_from : (n : ℕ) (bytes xs : List ℕ) → length bytes ≡ n + n → words_of bytes ≡ xs → IsPairs bytes xs
-unfolding words_of
+pub pairs_from : (n : ℕ) (bytes xs : List ℕ) → length bytes ≡ n + n → two_byte_samples bytes ≡ xs → IsPairs bytes xs
+unfolding two_byte_samples
 pairs_from zero [] xs len e = subst (λ (ys : List ℕ). IsPairs [] ys) e tt
 pairs_from zero (b ∷ bs) xs len e = absurd (omega (arith, len))
 pairs_from (suc n) [] xs len e = absurd (omega (arith, len))
 pairs_from (suc n) (b ∷ []) xs len e = absurd (omega (arith, len))
-pairs_from (suc n) (a ∷ b ∷ bs) xs len e = subst (λ (ys : List ℕ). IsPairs (a ∷ b ∷ bs) ys) e (refl, pairs_from n bs (words_of bs) (omega (arith, len)) refl)
+pairs_from (suc n) (a ∷ b ∷ bs) xs len e = subst (λ (ys : List ℕ). IsPairs (a ∷ b ∷ bs) ys) e (refl, pairs_from n bs (two_byte_samples bs) (omega (arith, len)) refl)
 
-pub pairs_words : (bytes xs : List ℕ) → IsPairs bytes xs → (words_of bytes ≡ xs) × (length bytes ≡ 2 * length xs)
-unfolding words_of
+pub pairs_words : (bytes xs : List ℕ) → IsPairs bytes xs → (two_byte_samples bytes ≡ xs) × (length bytes ≡ 2 * length xs)
+unfolding two_byte_samples
 pairs_words [] [] h = (refl, refl)
 pairs_words [] (s ∷ ss) h = absurd h
 pairs_words (b ∷ []) [] h = absurd h

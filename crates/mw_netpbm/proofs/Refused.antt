@@ -11,10 +11,10 @@ use Rattle.mw_model.specs.declared.formats.Format.TheVariants.{PlainBits, PlainG
 use Rattle.mw_model.specs.declared.formats.Header.{Header as Head}
 use Rattle.mw_netpbm_plain.specs.Reading.{◌>>=◌, Gives, Fails}
 use Rattle.mw_netpbm_plain.specs.Heading.{head_at, limits, magic_at}
-use Rattle.mw_netpbm.specs.Rasters.{grey8_at, grey16_at, words_of, rows_bits, bits_at}
-use Rattle.mw_netpbm_plain.specs.Plain.{plain_at, pixel_at, sample_at}
+use Rattle.mw_netpbm.specs.Rasters.{grey8_at, grey16_at, two_byte_samples, rows_bits, bits_in_raster}
+use Rattle.mw_netpbm_plain.specs.Plain.{plain_at, pixel_in_text, sample_in_text}
 use Rattle.mw_netpbm.specs.Whole.{raster_as, image_at, reading}
-use Rattle.mw_model.specs.NetpbmGrammar.{IsPixel, IsSample, BeginsImage, SizeFits, MaxvalFits, IsFile, picture}
+use Rattle.mw_model.specs.NetpbmGrammar.{IsPixel, IsSample, BeginsImage, SizeFits, MaxvalFits, IsFile, picture_under}
 use Rattle.mw_netpbm_plain.proofs.Sides.{Within, ok_is}
 use Rattle.mw_netpbm.proofs.Sides.{fold_bound, words_length, rows_length, rows_within}
 use Rattle.mw_netpbm_plain.proofs.Headers.{head_parts, capped, magic_parts}
@@ -116,14 +116,14 @@ grey8_lead w h m bytes lt le =
     }
 
 grey16_lead : (w h m : ℕ) (bytes : List ℕ) → 256 ≤ m → 2 * (h * w) ≤ length bytes
-    → BeginsRaster (headed RawGrey w h m) bytes (words_of (take (2 * (h * w)) bytes)) (drop (2 * (h * w)) bytes)
+    → BeginsRaster (headed RawGrey w h m) bytes (two_byte_samples (take (2 * (h * w)) bytes)) (drop (2 * (h * w)) bytes)
 grey16_lead w h m bytes ge le =
     let n = 2 * (h * w) in
     let len : length (take n bytes) ≡ (h * w) + (h * w) = length-take-le n bytes le ∙ omega arith in
     record {
       front = take n bytes;
       parts = sym (take-append-drop n bytes);
-      is_raster = record { count = words_length (h * w) (take n bytes) len; spelled = ((λ low. absurd (omega (arith, ge, low))), (λ high. pairs_from (h * w) (take n bytes) (words_of (take n bytes)) len refl)) };
+      is_raster = record { count = words_length (h * w) (take n bytes) len; spelled = ((λ low. absurd (omega (arith, ge, low))), (λ high. pairs_from (h * w) (take n bytes) (two_byte_samples (take n bytes)) len refl)) };
     }
 
 greatest-above : (xs : List ℕ) (m : ℕ) → ¬ Within m xs → m < fold max 0 xs
@@ -149,13 +149,13 @@ taken8 w h m bytes samples rest lt l =
       left = left_over (h * w) bytes l.front rest l.parts len;
     }
 
-taken16 : (w h m : ℕ) (bytes samples rest : List ℕ) → 256 ≤ m → BeginsRaster (headed RawGrey w h m) bytes samples rest → Taken (2 * (h * w)) bytes samples rest (words_of (take (2 * (h * w)) bytes))
+taken16 : (w h m : ℕ) (bytes samples rest : List ℕ) → 256 ≤ m → BeginsRaster (headed RawGrey w h m) bytes samples rest → Taken (2 * (h * w)) bytes samples rest (two_byte_samples (take (2 * (h * w)) bytes))
 taken16 w h m bytes samples rest ge l =
     let p = pairs_words l.front samples (l.is_raster.spelled.1 ge) in
     let len : length l.front ≡ 2 * (h * w) = p.1 ∙ ap (λ k. 2 * k) l.is_raster.count in
     record {
       enough = omega (arith, ap length l.parts, length-append l.front rest, len);
-      same = ap (λ (t : List ℕ). words_of (take (2 * (h * w)) t)) l.parts ∙ ap words_of (take_at l.front rest (2 * (h * w)) len) ∙ p.0;
+      same = ap (λ (t : List ℕ). two_byte_samples (take (2 * (h * w)) t)) l.parts ∙ ap two_byte_samples (take_at l.front rest (2 * (h * w)) len) ∙ p.0;
       left = left_over (2 * (h * w)) bytes l.front rest l.parts len;
     }
 
@@ -206,11 +206,11 @@ raw_grey_refuses w h m bytes =
           rw (lt-ltb _ _ lt) (raw_refuses (headed RawGrey w h m) (h * w) bytes (take (h * w) bytes) size (λ le. grey8_lead w h m bytes lt le) (λ ss rest l. taken8 w h m bytes ss rest lt l))
       | inr ge ↦
           let size : 2 * (h * w) ≡ cond (ltb m 256) (h * w) (2 * (h * w)) = rw (le-ltb _ _ ge) refl in
-          rw (le-ltb _ _ ge) (raw_refuses (headed RawGrey w h m) (2 * (h * w)) bytes (words_of (take (2 * (h * w)) bytes)) size (λ le. grey16_lead w h m bytes ge le) (λ ss rest l. taken16 w h m bytes ss rest ge l))
+          rw (le-ltb _ _ ge) (raw_refuses (headed RawGrey w h m) (2 * (h * w)) bytes (two_byte_samples (take (2 * (h * w)) bytes)) size (λ le. grey16_lead w h m bytes ge le) (λ ss rest l. taken16 w h m bytes ss rest ge l))
     ]
 
-raw_bits_refuses : (w h m : ℕ) (bytes : List ℕ) → m ≡ 1 → RefusesAs code_of (bits_at w h bytes) (RawRefuses (headed RawBits w h m) bytes)
-unfolding bits_at
+raw_bits_refuses : (w h m : ℕ) (bytes : List ℕ) → m ≡ 1 → RefusesAs code_of (bits_in_raster w h bytes) (RawRefuses (headed RawBits w h m) bytes)
+unfolding bits_in_raster
 raw_bits_refuses w h m bytes one =
     let n = h * ((w + 7) / 8) in
     refuses-like code_of (cond (ltb (length bytes) n) (Err Short) (cond (ltb n (length bytes)) (Err Trailing) (Ok (rows_bits w h bytes))))
@@ -244,12 +244,12 @@ raw_bits_refuses w h m bytes one =
 
 raster_refuses : (format : Format) (w h m : ℕ) (bytes : List ℕ) → m ≤ 65535 → SetMaxval format m → RefusesAs code_of (raster_as format w h m bytes) (RasterRefusesAs format (headed format w h m) bytes)
 unfolding raster_as
-raster_refuses PlainBits w h m bytes low one = refuses-view code_of (plain_at pixel_at (h * w) bytes) (λ xs. picture (headed PlainBits w h 1) xs) (PlainRefuses IsPixel 1 (h * w) bytes) (pixels_refuses (h * w) bytes)
-raster_refuses RawBits w h m bytes low one = refuses-view code_of (bits_at w h bytes) (λ xs. picture (headed RawBits w h 1) xs) (RawRefuses (headed RawBits w h m) bytes) (raw_bits_refuses w h m bytes one)
+raster_refuses PlainBits w h m bytes low one = refuses-view code_of (plain_at pixel_in_text (h * w) bytes) (λ xs. picture_under (headed PlainBits w h 1) xs) (PlainRefuses IsPixel 1 (h * w) bytes) (pixels_refuses (h * w) bytes)
+raster_refuses RawBits w h m bytes low one = refuses-view code_of (bits_in_raster w h bytes) (λ xs. picture_under (headed RawBits w h 1) xs) (RawRefuses (headed RawBits w h m) bytes) (raw_bits_refuses w h m bytes one)
 raster_refuses PlainGrey w h m bytes low one =
-    refuses-view code_of (plain_at (sample_at m) (h * w) bytes) (λ xs. picture (headed PlainGrey w h m) xs) (PlainRefuses IsSample m (h * w) bytes) (plain_refuses (sample_at m) IsSample m (reads_samples m low) (h * w) bytes)
+    refuses-view code_of (plain_at (sample_in_text m) (h * w) bytes) (λ xs. picture_under (headed PlainGrey w h m) xs) (PlainRefuses IsSample m (h * w) bytes) (plain_refuses (sample_in_text m) IsSample m (reads_samples m low) (h * w) bytes)
 raster_refuses RawGrey w h m bytes low one =
-    refuses-view code_of (cond (ltb m 256) (grey8_at (h * w) m bytes) (grey16_at (h * w) m bytes)) (λ xs. picture (headed RawGrey w h m) xs) (RawRefuses (headed RawGrey w h m) bytes) (raw_grey_refuses w h m bytes)
+    refuses-view code_of (cond (ltb m 256) (grey8_at (h * w) m bytes) (grey16_at (h * w) m bytes)) (λ xs. picture_under (headed RawGrey w h m) xs) (RawRefuses (headed RawGrey w h m) bytes) (raw_grey_refuses w h m bytes)
 
 -- ---- the whole file
 

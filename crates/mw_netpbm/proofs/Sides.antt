@@ -5,7 +5,7 @@ use Rattle.std.proofs.lemmas.List.{length-take, take_all}
 use Rattle.mw_model.proofs.mw_facts.Alls.{all-append, all-take}
 use Rattle.mw_netpbm_plain.specs.declared.fault.ReadFault.TheVariants.{Short, Sample, Trailing}
 use Rattle.mw_model.specs.NetpbmGrammar.{bits_of}
-use Rattle.mw_netpbm.specs.Rasters.{grey8_at, grey16_at, words_of, row_bits, rows_bits, bits_at}
+use Rattle.mw_netpbm.specs.Rasters.{grey8_at, grey16_at, two_byte_samples, row_bits, rows_bits, bits_in_raster}
 use Rattle.mw_netpbm_plain.proofs.Sides.{guard_ok, ok_is, Within}
 
 pub fold_bound : (xs : List ℕ) (a m : ℕ) → fold max a xs ≤ m → (a ≤ m) × Within m xs
@@ -25,8 +25,8 @@ grey8_ok count m bytes xs e =
     let all : take count bytes ≡ bytes = take_all count bytes l2 in
     (sym all ∙ same, omega (arith, ap length same, length-take count bytes), subst (λ ys. Within m ys) same (fold_bound (take count bytes) 0 m low).1)
 
-pub words_length : (n : ℕ) (bytes : List ℕ) → length bytes ≡ n + n → length (words_of bytes) ≡ n
-unfolding words_of
+pub words_length : (n : ℕ) (bytes : List ℕ) → length bytes ≡ n + n → length (two_byte_samples bytes) ≡ n
+unfolding two_byte_samples
 words_length zero [] e = refl
 words_length zero (b ∷ bs) e = absurd (omega (arith, e))
 words_length (suc n) [] e = absurd (omega (arith, e))
@@ -71,31 +71,31 @@ rows_length width (suc height) bytes h =
     let ih = rows_length width height (drop stride bytes) (omega (arith, length-drop stride bytes, h)) in
     omega (arith, row, ih, length-append (row_bits width (take stride bytes)) (rows_bits width height (drop stride bytes)))
 
-pub grey16_ok : (count m : ℕ) (bytes xs : List ℕ) → grey16_at count m bytes ≡ Ok xs → (length bytes ≡ 2 * count) × (words_of bytes ≡ xs) × (length xs ≡ count) × Within m xs
+pub grey16_ok : (count m : ℕ) (bytes xs : List ℕ) → grey16_at count m bytes ≡ Ok xs → (length bytes ≡ 2 * count) × (two_byte_samples bytes ≡ xs) × (length xs ≡ count) × Within m xs
 unfolding grey16_at
 grey16_ok count m bytes xs e =
     let n : ℕ = 2 * count in
-    let a = guard_ok (ltb (length bytes) n) Short (cond (ltb m (fold max 0 (words_of (take n bytes)))) (Err Sample) (cond (ltb n (length bytes)) (Err Trailing) (Ok (words_of (take n bytes))))) xs e in
-    let b = guard_ok (ltb m (fold max 0 (words_of (take n bytes)))) Sample (cond (ltb n (length bytes)) (Err Trailing) (Ok (words_of (take n bytes)))) xs a.1 in
-    let c = guard_ok (ltb n (length bytes)) Trailing (Ok (words_of (take n bytes))) xs b.1 in
-    let same = ok_is (words_of (take n bytes)) xs c.1 in
+    let a = guard_ok (ltb (length bytes) n) Short (cond (ltb m (fold max 0 (two_byte_samples (take n bytes)))) (Err Sample) (cond (ltb n (length bytes)) (Err Trailing) (Ok (two_byte_samples (take n bytes))))) xs e in
+    let b = guard_ok (ltb m (fold max 0 (two_byte_samples (take n bytes)))) Sample (cond (ltb n (length bytes)) (Err Trailing) (Ok (two_byte_samples (take n bytes)))) xs a.1 in
+    let c = guard_ok (ltb n (length bytes)) Trailing (Ok (two_byte_samples (take n bytes))) xs b.1 in
+    let same = ok_is (two_byte_samples (take n bytes)) xs c.1 in
     let l1 : n ≤ length bytes = ltb-false _ _ a.0 in
     let l2 : length bytes ≤ n = ltb-false _ _ c.0 in
-    let low : fold max 0 (words_of (take n bytes)) ≤ m = ltb-false _ _ b.0 in
-    let all : words_of (take n bytes) ≡ words_of bytes = ap words_of (take_all n bytes l2) in
+    let low : fold max 0 (two_byte_samples (take n bytes)) ≤ m = ltb-false _ _ b.0 in
+    let all : two_byte_samples (take n bytes) ≡ two_byte_samples bytes = ap two_byte_samples (take_all n bytes l2) in
     let long : length bytes ≡ count + count = omega arith in
-    let whole : words_of bytes ≡ xs = sym all ∙ same in
-    (omega arith, whole, ap length (sym whole) ∙ words_length count bytes long, subst (λ ys. Within m ys) same (fold_bound (words_of (take n bytes)) 0 m low).1)
+    let whole : two_byte_samples bytes ≡ xs = sym all ∙ same in
+    (omega arith, whole, ap length (sym whole) ∙ words_length count bytes long, subst (λ ys. Within m ys) same (fold_bound (two_byte_samples (take n bytes)) 0 m low).1)
 
-pub bits_whole : (width height : ℕ) (bytes : List ℕ) → height * ((width + 7) / 8) ≤ length bytes → length bytes ≤ height * ((width + 7) / 8) → bits_at width height bytes ≡ Ok (rows_bits width height bytes)
-unfolding bits_at
+pub bits_whole : (width height : ℕ) (bytes : List ℕ) → height * ((width + 7) / 8) ≤ length bytes → length bytes ≤ height * ((width + 7) / 8) → bits_in_raster width height bytes ≡ Ok (rows_bits width height bytes)
+unfolding bits_in_raster
 bits_whole width height bytes enough no_more =
     let n : ℕ = height * ((width + 7) / 8) in
     ap (λ (b : Bool). cond b (Err Short) (cond (ltb n (length bytes)) (Err Trailing) (Ok (rows_bits width height bytes)))) (le-ltb (length bytes) n enough)
     ∙ ap (λ (b : Bool). cond b (Err Trailing) (Ok (rows_bits width height bytes))) (le-ltb n (length bytes) no_more)
 
-pub bits_ok : (width height : ℕ) (bytes xs : List ℕ) → bits_at width height bytes ≡ Ok xs → (length bytes ≡ height * ((width + 7) / 8)) × (rows_bits width height bytes ≡ xs) × (length xs ≡ height * width) × Within 1 xs
-unfolding bits_at
+pub bits_ok : (width height : ℕ) (bytes xs : List ℕ) → bits_in_raster width height bytes ≡ Ok xs → (length bytes ≡ height * ((width + 7) / 8)) × (rows_bits width height bytes ≡ xs) × (length xs ≡ height * width) × Within 1 xs
+unfolding bits_in_raster
 bits_ok width height bytes xs e =
     let n : ℕ = height * ((width + 7) / 8) in
     let a = guard_ok (ltb (length bytes) n) Short (cond (ltb n (length bytes)) (Err Trailing) (Ok (rows_bits width height bytes))) xs e in

@@ -1,11 +1,11 @@
 -- What is read fits its header.
 use Rattle.std.proofs.Common.{◌≡◌, ℕ, ◌-◌, ◌*◌, ◌≤◌, List, Ok}
 use Rattle.std.proofs.lemmas.List.Elements.{All-from_recursion}
-use Rattle.mw_netpbm.specs.Rasters.{grey8_at, grey16_at, bits_at}
+use Rattle.mw_netpbm.specs.Rasters.{grey8_at, grey16_at, bits_in_raster}
 use Rattle.mw_netpbm_plain.specs.Whole.{IsFit}
 use Rattle.mw_netpbm.proofs.Sides.{grey8_ok, grey16_ok, bits_ok}
 
-pub bits_fit : (width height : ℕ) (bytes xs : List ℕ) → bits_at width height bytes ≡ Ok xs → IsFit (height * width) 1 xs
+pub bits_fit : (width height : ℕ) (bytes xs : List ℕ) → bits_in_raster width height bytes ≡ Ok xs → IsFit (height * width) 1 xs
 bits_fit width height bytes xs e =
     let all = bits_ok width height bytes xs e in
     (all.2, All-from_recursion (λ s. s ≤ 1) xs all.3)

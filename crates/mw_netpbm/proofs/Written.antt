@@ -10,7 +10,7 @@ use Rattle.mw_model.specs.declared.shapes.Kind.{Kind}
 use Rattle.mw_model.specs.declared.shapes.Kind.TheVariants as kinds
 use Rattle.mw_model.specs.Pictures.{Picture, FitsKind, IsImage}
 use Rattle.mw_model.specs.declared.formats.Format.TheVariants.{PlainBits, PlainGrey, RawGrey, RawBits}
-use Rattle.mw_model.specs.NetpbmGrammar.{is_white, is_digit, SizeFits, MaxvalFits, nothing, IsNumber, value_after, IsField, IsPairs, IsLevels, IsFile, picture, kind_of}
+use Rattle.mw_model.specs.NetpbmGrammar.{is_white, is_digit, SizeFits, MaxvalFits, nothing, IsNumber, value_after, IsField, IsPairs, IsLevels, IsFile, picture_under, kind_of}
 use Rattle.mw_model.specs.NetpbmWriting.{two_bytes, grey_raster, grey_header, set_header, packed_rows, text_of}
 use Rattle.mw_netpbm.proofs.Packing.{rows_packed}
 use Rattle.mw_netpbm_plain.proofs.Begun.{SetMaxval, begun_maxval}
@@ -137,7 +137,7 @@ kind_maxval RawGrey m fits h = (omega (arith, fits.some), fits.small)
 pub writable : (bytes : List ℕ) (i : Picture) → IsFile bytes i → IsImage i
 writable bytes i is =
     let h = is.header in
-    let made : IsImage (picture h i.samples) = record {
+    let made : IsImage (picture_under h i.samples) = record {
       picture = record { size = is.is_raster.count; bounded = All-from_recursion (λ s. s ≤ h.maxval) i.samples is.within };
       maxval = kind_maxval h.format h.maxval is.maxval_fits (begun_maxval bytes is.raster h is.begins);
       width = (omega (arith, is.size_fits.some_column), is.size_fits.narrow);

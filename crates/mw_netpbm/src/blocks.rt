@@ -4,7 +4,7 @@ ghost use Rattle.std.specs.Prelude.{◌≡◌, ◌+◌, ◌-◌, ◌*◌, ◌/�
 ghost use Rattle.std.specs.List.{flat_map};
 ghost use Rattle.mw_model.specs.NetpbmGrammar.{bits_of};
 ghost use Rattle.mw_model.specs.NetpbmWriting.{packed, two_bytes};
-ghost use Rattle.mw_netpbm.specs.Rasters.{words_of, row_bits};
+ghost use Rattle.mw_netpbm.specs.Rasters.{two_byte_samples, row_bits};
 ghost use Rattle.mw_netpbm.specs.Swapping.{swap};
 ghost use Rattle.mw_netpbm.specs.SetWords.{turn, pixels_of};
 ghost use Rattle.mw_netpbm_plain.specs.SetWords.{in_words};
@@ -24,7 +24,7 @@ fn swapped(words: u16x32) -> u16x32
 #[inline(always)]
 pub(crate) fn words_in(bytes: &[u8]) -> u16x32
     requires { length bytes.now ≡ 64 }
-    ensures { result ≡ words_of bytes.now }
+    ensures { result ≡ two_byte_samples bytes.now }
 {
     swapped(u16x32::from_le_bytes(u8x64::from_slice(bytes)))
 }

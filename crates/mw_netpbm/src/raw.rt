@@ -2,8 +2,8 @@
 
 ghost use Rattle.std.specs.Prelude.{◌≡◌, ℕ, ◌≤◌, ◌<◌, ◌*◌, ◌+◌, ◌/◌, ◌++◌, List, length, IfOk, OnOk, fold, max, take, drop, vec_len};
 ghost use Rattle.mw_model.specs.declared.limits.TheConstants.{PIXEL_LIMIT, SIDE_LIMIT};
-ghost use Rattle.mw_netpbm_plain.specs.Reading.{seen, Gives};
-ghost use Rattle.mw_netpbm.specs.Rasters.{words_of, row_bits, rows_bits, grey8_at, grey16_at, bits_at};
+ghost use Rattle.mw_netpbm_plain.specs.Reading.{result_viewed, Gives};
+ghost use Rattle.mw_netpbm.specs.Rasters.{two_byte_samples, row_bits, rows_bits, grey8_at, grey16_at, bits_in_raster};
 ghost use Rattle.mw_netpbm_plain.specs.SetWords.{in_words, in_rows};
 ghost use Rattle.mw_netpbm_plain.specs.Whole.{raster_from};
 
@@ -26,7 +26,7 @@ fn greatest8(samples: &[u8]) -> u8
 /// The bytes of a raster that are samples of one byte each.
 #[tactic(auto, unfolding(crate::specs::Rasters::grey8_at))]
 fn samples8(count: usize, maxval: u8, raster: &[u8]) -> Result<&[u8], ReadFault>
-    ensures { seen (λ x. x.now) result ≡ grey8_at count maxval raster.now }
+    ensures { result_viewed (λ x. x.now) result ≡ grey8_at count maxval raster.now }
 {
     if raster.len() < count {
         return Err(ReadFault::Short);
@@ -72,7 +72,7 @@ pub(crate) fn owned_grey8(
     mut file: Vec<u8>,
 ) -> Result<Vec<u8>, ReadFault>
     requires { start ≤ length file.items }
-    ensures { seen (λ v. v.items) result ≡ grey8_at count maxval (drop start file.items) }
+    ensures { result_viewed (λ v. v.items) result ≡ grey8_at count maxval (drop start file.items) }
 {
     let (_, raster) = file.split_at(start);
     let _samples = samples8(count, maxval, raster)?;
@@ -81,9 +81,9 @@ pub(crate) fn owned_grey8(
 }
 
 /// The greatest of a sample and of those in the bytes.
-#[tactic(auto, unfolding(crate::specs::Rasters::words_of))]
+#[tactic(auto, unfolding(crate::specs::Rasters::two_byte_samples))]
 fn greatest_from(first: u16, bytes: &[u8]) -> u16
-    ensures { result ≡ fold max first (words_of bytes.now) }
+    ensures { result ≡ fold max first (two_byte_samples bytes.now) }
 {
     let mut most = first;
     let mut rest = bytes;
@@ -105,7 +105,7 @@ fn greatest_lane(lanes: [u16; 32]) -> u16
 }
 
 fn greatest16(bytes: &[u8]) -> u16
-    ensures { result ≡ fold max 0 (words_of bytes.now) }
+    ensures { result ≡ fold max 0 (two_byte_samples bytes.now) }
 {
     let mut lanes = u16x32::splat(0);
     let mut rest = bytes;
@@ -117,9 +117,9 @@ fn greatest16(bytes: &[u8]) -> u16
     greatest_from(greatest_lane(lanes.to_array()), rest)
 }
 
-#[tactic(auto, unfolding(crate::specs::Rasters::words_of))]
+#[tactic(auto, unfolding(crate::specs::Rasters::two_byte_samples))]
 fn push_words(out: &mut Vec<u16>, bytes: &[u8]) -> Result<(), AllocError>
-    ensures { OnOk result (out.new.items ≡ out.old.items ++ words_of bytes.now) }
+    ensures { OnOk result (out.new.items ≡ out.old.items ++ two_byte_samples bytes.now) }
 {
     let mut rest = bytes;
     'words: while let [high, low, after @ ..] = rest {
@@ -130,7 +130,7 @@ fn push_words(out: &mut Vec<u16>, bytes: &[u8]) -> Result<(), AllocError>
 }
 
 fn words(alloc: Global, count: usize, bytes: &[u8]) -> Result<Vec<u16>, AllocError>
-    ensures { IfOk result (λ v. v.items ≡ words_of bytes.now) }
+    ensures { IfOk result (λ v. v.items ≡ two_byte_samples bytes.now) }
 {
     let mut out = Vec::with_capacity(alloc, count)?;
     let mut rest = bytes;
@@ -216,7 +216,7 @@ fn rows(alloc: Global, width: usize, height: usize, raster: &[u8]) -> Result<Vec
 }
 
 /// Eight pixels to a byte.
-#[tactic(auto, unfolding(crate::specs::Rasters::bits_at))]
+#[tactic(auto, unfolding(crate::specs::Rasters::bits_in_raster))]
 pub(crate) fn bits(
     alloc: Global,
     width: u32,
@@ -225,7 +225,7 @@ pub(crate) fn bits(
 ) -> Result<Words, ReadFault>
     requires wide { width ≤ SIDE_LIMIT }
     requires high { height ≤ SIDE_LIMIT }
-    ensures { Gives (λ f. f) result (raster_from width height (bits_at width height raster.now)) }
+    ensures { Gives (λ f. f) result (raster_from width height (bits_in_raster width height raster.now)) }
 {
     let count = height as usize * ((width as usize + 7) / 8);
     if raster.len() < count {

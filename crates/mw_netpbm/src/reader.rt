@@ -1,7 +1,7 @@
 //! Reading a whole file: its header says which raster is to follow, and the raster decides.
 
 ghost use Rattle.std.specs.Prelude.{◌≡◌, ℕ, ◌≤◌, ◌<◌, ◌*◌, ◌-◌, List, length, drop, ◌≢◌, IfOk, IfErr, Ok, Err, true, nat_lt, MatchResult};
-ghost use Rattle.mw_netpbm_plain.specs.Reading.{seen, Gives};
+ghost use Rattle.mw_netpbm_plain.specs.Reading.{result_viewed, Gives};
 ghost use Rattle.mw_netpbm_plain.specs.Heading.{head_at, limits};
 ghost use Rattle.mw_netpbm_plain.specs.Whole.{IsFit};
 ghost use Rattle.mw_netpbm.specs.Whole.{grey_from, image_at, reading};
@@ -23,7 +23,7 @@ use std::sync::Arc;
 /// The image of the set that was found.
 #[tactic(auto, using(crate::proofs::Made::Fails_from))]
 fn set_image(alloc: Global, found: Result<Words, ReadFault>) -> Result<Image, ReadFault>
-    ensures { Gives (λ i. i) result (seen set_of found) }
+    ensures { Gives (λ i. i) result (result_viewed set_of found) }
 {
     let plane = Plane::of_words(found?);
     // for its samples
@@ -42,7 +42,7 @@ fn grey8_image(
 ) -> Result<Image, ReadFault>
     requires some { 1 ≤ maxval }
     requires fit { IfOk found (λ v. IsFit (height * width) maxval v.items) }
-    ensures { Gives (λ i. i) result (grey_from width height maxval (seen (λ v. v.items) found)) }
+    ensures { Gives (λ i. i) result (grey_from width height maxval (result_viewed (λ v. v.items) found)) }
 {
     let plane = Plane::new(width, height, found?);
     Ok(Image::grey8(Arc::new(alloc, plane)?, maxval))
@@ -59,7 +59,7 @@ fn grey16_image(
 ) -> Result<Image, ReadFault>
     requires deep { 256 ≤ maxval }
     requires fit { IfOk found (λ v. IsFit (height * width) maxval v.items) }
-    ensures { Gives (λ i. i) result (grey_from width height maxval (seen (λ v. v.items) found)) }
+    ensures { Gives (λ i. i) result (grey_from width height maxval (result_viewed (λ v. v.items) found)) }
 {
     let plane = Plane::new(width, height, found?);
     Ok(Image::grey16(Arc::new(alloc, plane)?, maxval))
@@ -190,7 +190,7 @@ pub fn read(alloc: Global, bytes: &[u8]) -> Result<Image, ReadFault>
     whole(alloc, bytes)
 }
 
-/// The same of bytes that are handed over: samples of one byte stay where they are, and take no memory of their own.
+/// What `read` gives, of bytes that are handed over: samples of one byte stay where they are, and take no memory of their own.
 pub fn read_owned(alloc: Global, bytes: Vec<u8>) -> Result<Image, ReadFault>
     ensures found { IfOk result (λ i. IsFile bytes.items i) }
     ensures writable { IfOk result (λ i. IsImage i) }

@@ -18,9 +18,9 @@ use Rattle.mw_netpbm_plain.specs.declared.bitmap.BitmapFacts.{BitmapFacts}
 use Rattle.mw_netpbm_plain.specs.Faults.{code_of, bitmap_code_of, as_bitmap, facts_of, facts_at}
 use Rattle.mw_netpbm_plain.specs.Reading.{◌>>=◌, Fails}
 use Rattle.mw_netpbm_plain.specs.Heading.{magic_at, head_at, side_limits}
-use Rattle.mw_netpbm_plain.specs.Plain.{plain_at, pixel_at}
+use Rattle.mw_netpbm_plain.specs.Plain.{plain_at, pixel_in_text}
 use Rattle.mw_netpbm_plain.specs.Whole.{plain_only, bitmap_head_at, pixels_from, bitmap_at}
-use Rattle.mw_netpbm_plain.specs.Places.{ones_of}
+use Rattle.mw_netpbm_plain.specs.PlainSamples.{ones_of}
 use Rattle.mw_netpbm_plain.proofs.Blanks.{cap}
 use Rattle.mw_netpbm_plain.proofs.Outcomes.{good, no_both, ok_or_err, RefusesAs, one_code, code_or_value, refuses-given, refuses-with, refuses-then, refuses-view, refuses-like, refuses-renamed}
 use Rattle.mw_netpbm_plain.proofs.Begun.{begun_read, begun_maxval, head_cap, SetMaxval}
@@ -102,9 +102,9 @@ pub pixels_within : (bytes xs : List ℕ) → IsPlain IsPixel bytes xs → Withi
 pixels_within bytes [] is = tt
 pixels_within bytes (s ∷ ss) is = (is.1.3, pixels_within is.0 ss is.2)
 
-pixels_read : (n : ℕ) (bytes xs : List ℕ) → length xs ≡ n → IsPlain IsPixel bytes xs → plain_at pixel_at n bytes ≡ Ok xs
+pixels_read : (n : ℕ) (bytes xs : List ℕ) → length xs ≡ n → IsPlain IsPixel bytes xs → plain_at pixel_in_text n bytes ≡ Ok xs
 pixels_read n bytes xs len is =
-    subst (λ k. plain_at pixel_at k bytes ≡ Ok xs) len (plain_read pixel_at IsPixel 1 (λ left b s rest ss p l more le. pixel_whole left b s rest p) bytes xs is (pixels_within bytes xs is))
+    subst (λ k. plain_at pixel_in_text k bytes ≡ Ok xs) len (plain_read pixel_in_text IsPixel 1 (λ left b s rest ss p l more le. pixel_whole left b s rest p) bytes xs is (pixels_within bytes xs is))
 
 -- ---- what is read
 
@@ -160,19 +160,19 @@ head_read side bytes x lt e =
 pub read_bitmap : (side : ℕ) (bytes : List ℕ) (f : Raster ℕ) → side < 4294967296 → bitmap_at side bytes ≡ Ok f → IsBitmap bytes side f
 unfolding bitmap_at
 read_bitmap side bytes f lt e =
-    let a = bind_ok (bitmap_head_at side bytes) (λ h. pixels_from h.0 (plain_at pixel_at (h.0.height * h.0.width) h.1)) f e in
+    let a = bind_ok (bitmap_head_at side bytes) (λ h. pixels_from h.0 (plain_at pixel_in_text (h.0.height * h.0.width) h.1)) f e in
     let h = a.0.0 in
-    let b = bind_ok (plain_at pixel_at (h.height * h.width) a.0.1) (λ xs. Ok (raster h.width h.height xs)) f a.2 in
+    let b = bind_ok (plain_at pixel_in_text (h.height * h.width) a.0.1) (λ xs. Ok (raster h.width h.height xs)) f a.2 in
     let r = head_read side bytes a.0 lt a.1 in
     let same = ok_is (raster h.width h.height b.0) f b.2 in
-    let spelled : IsPlain IsPixel a.0.1 b.0 = plain_from pixel_at IsPixel pixel_parts (h.height * h.width) a.0.1 b.0 b.1 in
+    let spelled : IsPlain IsPixel a.0.1 b.0 = plain_from pixel_in_text IsPixel pixel_parts (h.height * h.width) a.0.1 b.0 b.1 in
     let made : IsBitmap bytes side (raster h.width h.height b.0) = record {
       header = h;
       pixels = a.0.1;
       begins = r.begins;
       sides_fit = r.sides;
       is_raster = record {
-        count = plain_length pixel_at (h.height * h.width) a.0.1 b.0 b.1;
+        count = plain_length pixel_in_text (h.height * h.width) a.0.1 b.0 b.1;
         spelled = subst (λ k. RasterAs k h.width h.height h.maxval a.0.1 b.0) (sym r.begins.format) spelled;
       };
       shows = refl;
@@ -242,10 +242,10 @@ head_refuses side bytes =
 steps_refuse : (side : ℕ) (bytes : List ℕ) → RefusesAs bitmap_code (bitmap_at side bytes) (Steps side bytes)
 unfolding bitmap_at
 steps_refuse side bytes =
-    refuses-then bitmap_code (bitmap_head_at side bytes) (λ h. pixels_from h.0 (plain_at pixel_at (h.0.height * h.0.width) h.1)) (HeadSteps side bytes) (λ h. PlainRefuses IsPixel 1 (h.0.height * h.0.width) h.1) (head_refuses side bytes)
+    refuses-then bitmap_code (bitmap_head_at side bytes) (λ h. pixels_from h.0 (plain_at pixel_in_text (h.0.height * h.0.width) h.1)) (HeadSteps side bytes) (λ h. PlainRefuses IsPixel 1 (h.0.height * h.0.width) h.1) (head_refuses side bytes)
     (λ h read. let n = h.0.height * h.0.width in
-    refuses-view bitmap_code (plain_at pixel_at n h.1) (λ xs. raster h.0.width h.0.height xs) (PlainRefuses IsPixel 1 n h.1)
-    (refuses-renamed code_of bitmap_code (plain_at pixel_at n h.1) (PlainRefuses IsPixel 1 n h.1) (pixels_refuses n h.1) (same_code n h.1)))
+    refuses-view bitmap_code (plain_at pixel_in_text n h.1) (λ xs. raster h.0.width h.0.height xs) (PlainRefuses IsPixel 1 n h.1)
+    (refuses-renamed code_of bitmap_code (plain_at pixel_in_text n h.1) (PlainRefuses IsPixel 1 n h.1) (pixels_refuses n h.1) (same_code n h.1)))
 
 pub bitmap_refuses : (side : ℕ) (bytes : List ℕ) → side < 4294967296 → RefusesAs bitmap_code (bitmap_at side bytes) (BitmapRefuses bytes side)
 bitmap_refuses side bytes lt = refuses-like bitmap_code (bitmap_at side bytes) (Steps side bytes) (BitmapRefuses bytes side) (steps_refuse side bytes) to from
@@ -308,13 +308,13 @@ facts_here h (Ok xs) = refl
 facts_here h (Err d) = refl
 
 abbrev facts_after : Result (Head × List ℕ) ReadFault → Result BitmapFacts ReadFault
-facts_after r = r >>= λ h. ones_of (plain_at pixel_at (h.0.height * h.0.width) h.1) >>= λ ones. Ok (record { width = h.0.width; height = h.0.height; ones = ones })
+facts_after r = r >>= λ h. ones_of (plain_at pixel_in_text (h.0.height * h.0.width) h.1) >>= λ ones. Ok (record { width = h.0.width; height = h.0.height; ones = ones })
 
 abbrev pixels_after : Result (Head × List ℕ) ReadFault → Result (Raster ℕ) ReadFault
-pixels_after r = r >>= λ h. pixels_from h.0 (plain_at pixel_at (h.0.height * h.0.width) h.1)
+pixels_after r = r >>= λ h. pixels_from h.0 (plain_at pixel_in_text (h.0.height * h.0.width) h.1)
 
 facts_both : (r : Result (Head × List ℕ) ReadFault) → facts_after r ≡ facts_from (pixels_after r)
-facts_both (Ok (h, rest)) = facts_here h (plain_at pixel_at (h.height * h.width) rest)
+facts_both (Ok (h, rest)) = facts_here h (plain_at pixel_in_text (h.height * h.width) rest)
 facts_both (Err d) = refl
 
 facts_read : (side : ℕ) (bytes : List ℕ) → facts_at side bytes ≡ facts_from (bitmap_at side bytes)

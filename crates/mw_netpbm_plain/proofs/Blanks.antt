@@ -6,7 +6,7 @@ use Rattle.std.proofs.lemmas.Bool.Decides.{nat_tests}
 use Rattle.std.proofs.lemmas.List.{append-nil}
 use Rattle.mw_model.proofs.mw_facts.Alls.{all-push}
 use Rattle.mw_netpbm_plain.specs.declared.fault.ReadFault.TheVariants.{Header}
-use Rattle.mw_netpbm_plain.specs.Reading.{skip_from, digits_from, number_at}
+use Rattle.mw_netpbm_plain.specs.Reading.{skip_from, digits_from, number_in_text}
 use Rattle.mw_model.specs.NetpbmGrammar.{is_white, is_eol, is_digit, NoDigit, Blank, nothing, white, comment, value_after, IsNumber}
 use Rattle.mw_netpbm_plain.proofs.Whole.{cond-chosen}
 use Rattle.mw_netpbm_plain.proofs.Sides.{ok_is}
@@ -139,24 +139,24 @@ pub record Numbered (bytes rest : List ℕ) (capped : ℕ) : Type 0 where
   pub stops : NoDigit rest
   pub is_capped : capped ≡ cap value
 
-pub number_whole : (text rest : List ℕ) (n : ℕ) → IsNumber text n → NoDigit rest → number_at (text ++ rest) ≡ Ok (cap n, rest)
-unfolding number_at
+pub number_whole : (text rest : List ℕ) (n : ℕ) → IsNumber text n → NoDigit rest → number_in_text (text ++ rest) ≡ Ok (cap n, rest)
+unfolding number_in_text
 number_whole [] rest n is stop = absurd (omega (arith, is.some))
 number_whole (d ∷ text) rest n is stop =
     ap (λ (x : Bool). cond x (Ok (digits_from 0 (d ∷ text ++ rest))) (Err Header)) is.each.0
     ∙ ap (λ (p : ℕ × List ℕ). Ok p) (digits_whole (d ∷ text) 0 rest is.each stop)
     ∙ ap (λ (k : ℕ). Ok (cap k, rest)) is.value
 
-number_cases : (b : ℕ) (bs : List ℕ) (x : ℕ × List ℕ) → number_at (b ∷ bs) ≡ Ok x → (is_digit b ≡ true) × (digits_from 0 (b ∷ bs) ≡ x)
-unfolding number_at
+number_cases : (b : ℕ) (bs : List ℕ) (x : ℕ × List ℕ) → number_in_text (b ∷ bs) ≡ Ok x → (is_digit b ≡ true) × (digits_from 0 (b ∷ bs) ≡ x)
+unfolding number_in_text
 number_cases b bs x e =
     elim (cond-chosen (is_digit b) (Ok (digits_from 0 (b ∷ bs))) (Err Header) (Ok x) e) [
       | inl w ↦ (w.0, ok_is (digits_from 0 (b ∷ bs)) x w.1)
       | inr w ↦ absurd (let clash : Err Header ≡ Ok x = w.1 in cc)
     ]
 
-pub number_parts : (bytes : List ℕ) (x : ℕ × List ℕ) → number_at bytes ≡ Ok x → Numbered bytes x.1 x.0
-unfolding number_at
+pub number_parts : (bytes : List ℕ) (x : ℕ × List ℕ) → number_in_text bytes ≡ Ok x → Numbered bytes x.1 x.0
+unfolding number_in_text
 number_parts [] x e = absurd cc
 number_parts (b ∷ bs) x e =
     let d = number_cases b bs x e in

@@ -9,14 +9,14 @@ use Rattle.mw_netpbm_plain.specs.declared.fault.ReadFault.{ReadFault}
 use Rattle.mw_netpbm_plain.specs.declared.fault.ReadFault.TheVariants.{Short, Sample, Trailing}
 use Rattle.mw_netpbm_plain.specs.declared.plain.Places.{Places}
 use Rattle.mw_netpbm_plain.specs.declared.plain.Places.TheVariants.{Pixels, Samples}
-use Rattle.mw_netpbm_plain.specs.Reading.{◌>>=◌, fault_of, skip_from, digits_from}
-use Rattle.mw_netpbm_plain.specs.Plain.{tail_at, plain_at, bit_at, pixel_at, apart, level_at, sample_at}
-use Rattle.mw_netpbm_plain.specs.Places.{place_at}
+use Rattle.mw_netpbm_plain.specs.Reading.{◌>>=◌, fault_alone, skip_from, digits_from}
+use Rattle.mw_netpbm_plain.specs.Plain.{tail_at, plain_at, bit_at, pixel_in_text, apart, level_in_text, sample_in_text}
+use Rattle.mw_netpbm_plain.specs.PlainSamples.{place_in_text}
 use Rattle.mw_netpbm_plain.specs.Tallies.{signs_in, words_in, has_hash, room_for}
 use Rattle.mw_netpbm_plain.proofs.Blanks.{skip_visible, skip_white, digit_visible}
 
 abbrev IsLong : {X : Type 0} → Result X ReadFault → Type 0
-IsLong read = fault_of read ≡ Some Short → ⊥
+IsLong read = fault_alone read ≡ Some Short → ⊥
 
 tail_cases : (w : Bool) → IsLong {X = List ℕ} (cond w (Ok []) (Err Trailing))
 tail_cases true h = let clash : None ≡ Some Short = h in cc
@@ -120,12 +120,12 @@ bit_short (b ∷ bs) h = absurd (by_test ((eqb b 48) || (eqb b 49)) h)
     by_test true e = no_fault (sym e)
     by_test false e = other_fault e
 
-pixels_long : (count : ℕ) (bytes : List ℕ) → has_hash bytes ≡ false → count ≤ signs_in bytes → IsLong (plain_at pixel_at count bytes)
-unfolding plain_at pixel_at
+pixels_long : (count : ℕ) (bytes : List ℕ) → has_hash bytes ≡ false → count ≤ signs_in bytes → IsLong (plain_at pixel_in_text count bytes)
+unfolding plain_at pixel_in_text
 pixels_long zero bytes clean room = tail_long bytes
 pixels_long (suc left) bytes clean room =
     let gap = skipped bytes clean in
-    one_long pixel_at left bytes
+    one_long pixel_in_text left bytes
     (λ s after e. let found = bit_after (skip_from false bytes) s after e gap.clean in pixels_long left after found.0 (omega (arith, found.1, gap.signs, room)))
     (λ e. omega (arith, bit_short (skip_from false bytes) e, gap.signs, room))
 
@@ -168,9 +168,9 @@ apart_whole (suc left) (n, b ∷ bs) h = by_test (is_white b) h
     by_test true e = no_fault (sym e)
     by_test false e = other_fault e
 
-level_after : (maxval left : ℕ) (rest : List ℕ) (s : ℕ) (after : List ℕ) → level_at maxval left rest ≡ Ok (s, after) → has_hash rest ≡ false
+level_after : (maxval left : ℕ) (rest : List ℕ) (s : ℕ) (after : List ℕ) → level_in_text maxval left rest ≡ Ok (s, after) → has_hash rest ≡ false
     → (has_hash after ≡ false) × (suc left ≤ words_in true rest → left ≤ words_in true after)
-unfolding level_at
+unfolding level_in_text
 level_after maxval left [] s after h clean = absurd (no_fault h)
 level_after maxval left (b ∷ bs) s after h clean = by_tests (is_digit b) (nat_lt maxval (digits_from 0 (b ∷ bs)).0) refl h
   where
@@ -186,8 +186,8 @@ level_after maxval left (b ∷ bs) s after h clean = by_tests (is_digit b) (nat_
         (found.0, λ le. found.1 (omega (arith, digits.1, one, none, le)))
     by_tests false u d e = absurd (no_fault e)
 
-level_short : (maxval left : ℕ) (rest : List ℕ) → level_at maxval left rest ≡ Err Short → words_in true rest ≡ 0
-unfolding level_at
+level_short : (maxval left : ℕ) (rest : List ℕ) → level_in_text maxval left rest ≡ Err Short → words_in true rest ≡ 0
+unfolding level_in_text
 level_short maxval left [] h = refl
 level_short maxval left (b ∷ bs) h = absurd (by_tests (is_digit b) (nat_lt maxval (digits_from 0 (b ∷ bs)).0) h)
   where
@@ -196,15 +196,15 @@ level_short maxval left (b ∷ bs) h = absurd (by_tests (is_digit b) (nat_lt max
     by_tests true false e = apart_whole left (digits_from 0 (b ∷ bs)) e
     by_tests false u e = other_fault e
 
-samples_long : (maxval count : ℕ) (bytes : List ℕ) → has_hash bytes ≡ false → count ≤ words_in true bytes → IsLong (plain_at (sample_at maxval) count bytes)
-unfolding plain_at sample_at
+samples_long : (maxval count : ℕ) (bytes : List ℕ) → has_hash bytes ≡ false → count ≤ words_in true bytes → IsLong (plain_at (sample_in_text maxval) count bytes)
+unfolding plain_at sample_in_text
 samples_long maxval zero bytes clean room = tail_long bytes
 samples_long maxval (suc left) bytes clean room =
     let gap = skipped bytes clean in
-    one_long (sample_at maxval) left bytes
+    one_long (sample_in_text maxval) left bytes
     (λ s after e. let found = level_after maxval left (skip_from false bytes) s after e gap.clean in samples_long maxval left after found.0 (found.1 (omega (arith, gap.words, room))))
     (λ e. omega (arith, level_short maxval left (skip_from false bytes) e, gap.words, room))
 
-pub not_short : (places : Places) (count : ℕ) (bytes : List ℕ) → has_hash bytes ≡ false → count ≤ room_for places bytes → fault_of (plain_at (place_at places) count bytes) ≡ Some Short → ⊥
+pub not_short : (places : Places) (count : ℕ) (bytes : List ℕ) → has_hash bytes ≡ false → count ≤ room_for places bytes → fault_alone (plain_at (place_in_text places) count bytes) ≡ Some Short → ⊥
 not_short Pixels count bytes clean room = pixels_long count bytes clean room
 not_short (Samples maxval) count bytes clean room = samples_long maxval count bytes clean room

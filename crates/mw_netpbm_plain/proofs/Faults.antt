@@ -2,7 +2,7 @@
 use Rattle.std.proofs.Common.{◌≡◌, ℕ, true, false, Some, None, List, [], ◌∷◌, map, Result, Ok, Err, refl, ap, inl, inr}
 use Rattle.mw_netpbm_plain.specs.declared.fault.ReadFault.{ReadFault}
 use Rattle.mw_netpbm_plain.specs.declared.fault.ReadFault.TheVariants.{Magic, Header, Size, Maxval, Short, Sample, Trailing, NoMemory}
-use Rattle.mw_netpbm_plain.specs.Reading.{◌>>=◌, Fails, fault_of}
+use Rattle.mw_netpbm_plain.specs.Reading.{◌>>=◌, Fails, fault_alone}
 
 pub Fails_from : {Y : Type 0} (e : ReadFault) (read : Result Y ReadFault) → read ≡ Err e → Fails e read
 Fails_from Magic read h = h
@@ -14,7 +14,7 @@ Fails_from Sample read h = h
 Fails_from Trailing read h = h
 Fails_from NoMemory read h = inr h
 
-pub Fails_fault : {Y : Type 0} (e : ReadFault) (read : Result Y ReadFault) → fault_of read ≡ Some e → Fails e read
+pub Fails_fault : {Y : Type 0} (e : ReadFault) (read : Result Y ReadFault) → fault_alone read ≡ Some e → Fails e read
 Fails_fault e (Ok x) h = absurd (let clash : None ≡ Some e = h in cc)
 Fails_fault e (Err f) h = let same : f ≡ e = cc in Fails_from e (Err f) (ap (λ (x : ReadFault). Err x) same)
 

@@ -7,7 +7,7 @@ use Rattle.mw_netpbm_plain.specs.declared.fault.ReadFault.TheVariants.{Magic, He
 use Rattle.mw_model.specs.declared.formats.Format.{Format}
 use Rattle.mw_model.specs.declared.formats.Format.TheVariants.{PlainBits, PlainGrey, RawBits, RawGrey}
 use Rattle.mw_model.specs.declared.formats.Header.{Header as Head}
-use Rattle.mw_netpbm_plain.specs.Reading.{◌>>=◌, skip_from, gap_at, number_at, field_at}
+use Rattle.mw_netpbm_plain.specs.Reading.{◌>>=◌, skip_from, gap_at, number_in_text, field_at}
 use Rattle.mw_model.specs.NetpbmGrammar.{is_white, NoDigit, Blank, IsNumber, IsField, magic, IsMaxval, IsHeader, BeginsImage}
 use Rattle.mw_netpbm_plain.specs.Heading.{magic_at, maxval_at, white_at, head_at}
 use Rattle.mw_netpbm_plain.proofs.Whole.{cond-chosen}
@@ -31,7 +31,7 @@ field_whole bytes rest n is stop =
     let gap : gap_at (bytes ++ rest) ≡ Ok (is.digits ++ rest) =
     ap gap_at regrouped ∙ gap_whole is.first (is.blank ++ (is.digits ++ rest)) is.is_white
     ∙ ap (λ (b : List ℕ). Ok b) (skip_blank is.blank (is.digits ++ rest) is.is_blank ∙ skip_number is.digits rest n is.is_number) in
-    ap (λ (g : Result (List ℕ) ReadFault). g >>= number_at) gap ∙ number_whole is.digits rest n is.is_number stop
+    ap (λ (g : Result (List ℕ) ReadFault). g >>= number_in_text) gap ∙ number_whole is.digits rest n is.is_number stop
 
 pub record Fielded (bytes rest : List ℕ) (capped : ℕ) : Type 0 where
   pub text : List ℕ
@@ -51,8 +51,8 @@ gap_parts (b ∷ bs) rest e =
     ]
 
 -- before a number only blanks were skipped
-blank_before : (bytes rest : List ℕ) (x : ℕ × List ℕ) → Skipped bytes rest → number_at rest ≡ Ok x → (blank : List ℕ) × (bytes ≡ blank ++ rest) × Blank blank
-unfolding number_at
+blank_before : (bytes rest : List ℕ) (x : ℕ × List ℕ) → Skipped bytes rest → number_in_text rest ≡ Ok x → (blank : List ℕ) × (bytes ≡ blank ++ rest) × Blank blank
+unfolding number_in_text
 blank_before bytes rest x (at_visible blank b bs bl v) e = (blank, refl, bl)
 blank_before bytes rest x (at_end all bl) e = absurd cc
 blank_before bytes rest x (in_comment blank text bl all) e = absurd cc
@@ -60,7 +60,7 @@ blank_before bytes rest x (in_comment blank text bl all) e = absurd cc
 pub field_parts : (bytes : List ℕ) (x : ℕ × List ℕ) → field_at bytes ≡ Ok x → Fielded bytes x.1 x.0
 unfolding field_at
 field_parts bytes x e =
-    let a = bind_ok (gap_at bytes) number_at x e in
+    let a = bind_ok (gap_at bytes) number_in_text x e in
     let g = gap_parts bytes a.0 a.1 in
     let s : Skipped g.1 a.0 = subst (λ (rest : List ℕ). Skipped g.1 rest) g.4 (skipped g.1) in
     let b = blank_before g.1 a.0 x s a.2 in

@@ -110,7 +110,7 @@ refuses-like name read R S is to from = record {
   met = λ c s. is.met c (from c s);
 }
 
--- the same faults under other names, where the relation tells none of those that differ
+-- refusals by these faults under other names, where the relation tells none of those that differ
 pub refuses-renamed : {A : Type 0} (name other : ReadFault → Code) (read : Result A ReadFault) (R : Code → Type 0) → RefusesAs name read R → ((d : ReadFault) → R (name d) → name d ≡ other d)
     → RefusesAs other read R
 refuses-renamed name other read R is same = record {

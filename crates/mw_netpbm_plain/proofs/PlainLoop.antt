@@ -4,10 +4,10 @@ use Rattle.std.proofs.lemmas.List.{append-nil, map-append}
 use Rattle.std.proofs.lemmas.List.Sums.{sum_by-cons}
 use Rattle.mw_netpbm_plain.specs.declared.fault.ReadFault.{ReadFault}
 use Rattle.mw_netpbm_plain.specs.declared.fault.ReadFault.TheVariants.{Trailing}
-use Rattle.mw_netpbm_plain.specs.Reading.{◌>>=◌, fault_of}
+use Rattle.mw_netpbm_plain.specs.Reading.{◌>>=◌, fault_alone}
 use Rattle.mw_model.specs.NetpbmGrammar.{is_white}
 use Rattle.mw_netpbm_plain.specs.Plain.{plain_at, tail_at}
-use Rattle.mw_netpbm_plain.specs.Places.{ones_of}
+use Rattle.mw_netpbm_plain.specs.PlainSamples.{ones_of}
 
 -- what was read before, and what is still read
 abbrev pub with_front : List ℕ → Result (List ℕ) ReadFault → Result (List ℕ) ReadFault
@@ -62,26 +62,26 @@ pub fault_counted : (place : ℕ → List ℕ → Result (ℕ × List ℕ) ReadF
     → place (left - 1) bytes ≡ Err f → plus n (ones_of (plain_at place left bytes)) ≡ total → Err f ≡ total
 fault_counted place left n bytes f total lt h so_far = sym (ap (λ (r : Result (List ℕ) ReadFault). plus n (ones_of r)) (one_fault place left bytes f lt h)) ∙ so_far
 
-tail_sum : (n : ℕ) (read : Result (List ℕ) ReadFault) (f : ReadFault) → fault_of read ≡ Some f → plus n (ones_of read) ≡ Err f
+tail_sum : (n : ℕ) (read : Result (List ℕ) ReadFault) (f : ReadFault) → fault_alone read ≡ Some f → plus n (ones_of read) ≡ Err f
 tail_sum n (Ok xs) f h = absurd (let clash : None ≡ Some f = h in cc)
 tail_sum n (Err g) f h = let same : g ≡ f = cc in ap (λ (k : ReadFault). Err k) same
 
-zero_cases : (n : ℕ) (w : Bool) → fault_of {X = List ℕ} (cond w (Ok []) (Err Trailing)) ≡ None → plus n (ones_of (cond w (Ok []) (Err Trailing))) ≡ Ok n
+zero_cases : (n : ℕ) (w : Bool) → fault_alone {X = List ℕ} (cond w (Ok []) (Err Trailing)) ≡ None → plus n (ones_of (cond w (Ok []) (Err Trailing))) ≡ Ok n
 zero_cases n true h = ap (λ (k : ℕ). Ok k) (omega arith)
 zero_cases n false h = absurd (let clash : Some Trailing ≡ None = h in cc)
 
-tail_zero : (n : ℕ) (bytes : List ℕ) → fault_of (tail_at bytes) ≡ None → plus n (ones_of (tail_at bytes)) ≡ Ok n
+tail_zero : (n : ℕ) (bytes : List ℕ) → fault_alone (tail_at bytes) ≡ None → plus n (ones_of (tail_at bytes)) ≡ Ok n
 unfolding tail_at
 tail_zero n [] h = ap (λ (k : ℕ). Ok k) (omega arith)
 tail_zero n (b ∷ bs) h = zero_cases n (is_white b) h
 
 pub tail_counted : (place : ℕ → List ℕ → Result (ℕ × List ℕ) ReadFault) (left n : ℕ) (bytes : List ℕ) (f : ReadFault) (total : Result ℕ ReadFault) → left ≤ 0
-    → fault_of (tail_at bytes) ≡ Some f → plus n (ones_of (plain_at place left bytes)) ≡ total → Err f ≡ total
+    → fault_alone (tail_at bytes) ≡ Some f → plus n (ones_of (plain_at place left bytes)) ≡ total → Err f ≡ total
 tail_counted place left n bytes f total le h so_far =
     sym (tail_sum n (tail_at bytes) f h) ∙ ap (λ (r : Result (List ℕ) ReadFault). plus n (ones_of r)) (sym (all_checked place left bytes le)) ∙ so_far
 
 pub all_counted : (place : ℕ → List ℕ → Result (ℕ × List ℕ) ReadFault) (left n : ℕ) (bytes : List ℕ) (total : Result ℕ ReadFault) → left ≤ 0
-    → fault_of (tail_at bytes) ≡ None → plus n (ones_of (plain_at place left bytes)) ≡ total → Ok n ≡ total
+    → fault_alone (tail_at bytes) ≡ None → plus n (ones_of (plain_at place left bytes)) ≡ total → Ok n ≡ total
 all_counted place left n bytes total le h so_far =
     sym (tail_zero n bytes h) ∙ ap (λ (r : Result (List ℕ) ReadFault). plus n (ones_of r)) (sym (all_checked place left bytes le)) ∙ so_far
 
@@ -98,25 +98,25 @@ pub fault_filled : (place : ℕ → List ℕ → Result (ℕ × List ℕ) ReadFa
     → place (left - 1) bytes ≡ Err f → with_front front (plain_at place left bytes) ≡ total → Err f ≡ total
 fault_filled place left bytes front f total lt h so_far = sym (ap (with_front front) (one_fault place left bytes f lt h)) ∙ so_far
 
-tail_front : (front : List ℕ) (read : Result (List ℕ) ReadFault) (f : ReadFault) → fault_of read ≡ Some f → with_front front read ≡ Err f
+tail_front : (front : List ℕ) (read : Result (List ℕ) ReadFault) (f : ReadFault) → fault_alone read ≡ Some f → with_front front read ≡ Err f
 tail_front front (Ok xs) f h = absurd (let clash : None ≡ Some f = h in cc)
 tail_front front (Err g) f h = let same : g ≡ f = cc in ap (λ (k : ReadFault). Err k) same
 
 pub tail_filled : (place : ℕ → List ℕ → Result (ℕ × List ℕ) ReadFault) (left : ℕ) (bytes front : List ℕ) (f : ReadFault) (total : Result (List ℕ) ReadFault) → left ≤ 0
-    → fault_of (tail_at bytes) ≡ Some f → with_front front (plain_at place left bytes) ≡ total → Err f ≡ total
+    → fault_alone (tail_at bytes) ≡ Some f → with_front front (plain_at place left bytes) ≡ total → Err f ≡ total
 tail_filled place left bytes front f total le h so_far =
     sym (tail_front front (tail_at bytes) f h) ∙ ap (with_front front) (sym (all_checked place left bytes le)) ∙ so_far
 
-whole_cases : (front : List ℕ) (w : Bool) → fault_of {X = List ℕ} (cond w (Ok []) (Err Trailing)) ≡ None → with_front front (cond w (Ok []) (Err Trailing)) ≡ Ok front
+whole_cases : (front : List ℕ) (w : Bool) → fault_alone {X = List ℕ} (cond w (Ok []) (Err Trailing)) ≡ None → with_front front (cond w (Ok []) (Err Trailing)) ≡ Ok front
 whole_cases front true h = ap (λ (ys : List ℕ). Ok ys) (append-nil front)
 whole_cases front false h = absurd (let clash : Some Trailing ≡ None = h in cc)
 
-tail_whole : (front bytes : List ℕ) → fault_of (tail_at bytes) ≡ None → with_front front (tail_at bytes) ≡ Ok front
+tail_whole : (front bytes : List ℕ) → fault_alone (tail_at bytes) ≡ None → with_front front (tail_at bytes) ≡ Ok front
 unfolding tail_at
 tail_whole front [] h = ap (λ (ys : List ℕ). Ok ys) (append-nil front)
 tail_whole front (b ∷ bs) h = whole_cases front (is_white b) h
 
 pub all_filled : (place : ℕ → List ℕ → Result (ℕ × List ℕ) ReadFault) (left : ℕ) (bytes front : List ℕ) (total : Result (List ℕ) ReadFault) → left ≤ 0
-    → fault_of (tail_at bytes) ≡ None → with_front front (plain_at place left bytes) ≡ total → Ok front ≡ total
+    → fault_alone (tail_at bytes) ≡ None → with_front front (plain_at place left bytes) ≡ total → Ok front ≡ total
 all_filled place left bytes front total le h so_far =
     sym (tail_whole front bytes h) ∙ ap (with_front front) (sym (all_checked place left bytes le)) ∙ so_far

@@ -6,9 +6,9 @@ use Rattle.mw_netpbm_plain.specs.declared.fault.ReadFault.TheVariants.{Magic, He
 use Rattle.mw_model.specs.declared.formats.Format.{Format}
 use Rattle.mw_model.specs.declared.formats.Format.TheVariants.{PlainBits, PlainGrey, RawBits, RawGrey}
 use Rattle.mw_model.specs.declared.formats.Header.{Header as Head}
-use Rattle.mw_netpbm_plain.specs.Reading.{◌>>=◌, skip_from, gap_at, digits_from, number_at, field_at}
+use Rattle.mw_netpbm_plain.specs.Reading.{◌>>=◌, skip_from, gap_at, digits_from, number_in_text, field_at}
 use Rattle.mw_netpbm_plain.specs.Heading.{head_at, magic_at, maxval_at, white_at}
-use Rattle.mw_netpbm_plain.specs.Plain.{plain_at, pixel_at, sample_at, tail_at, bit_at, apart, level_at}
+use Rattle.mw_netpbm_plain.specs.Plain.{plain_at, pixel_in_text, sample_in_text, tail_at, bit_at, apart, level_in_text}
 use Rattle.mw_model.specs.NetpbmGrammar.{IsPixel, IsSample, is_white, is_digit, is_eol}
 use Rattle.mw_netpbm_plain.proofs.Whole.{cond-chosen, sample_small}
 use Rattle.mw_netpbm_plain.proofs.Headers.{magic_whole}
@@ -44,14 +44,14 @@ unfolding gap_at
 gap_err [] d e = err_is {A = List ℕ} Header d e
 gap_err (b ∷ bs) d e = err_is {A = List ℕ} Header d (else_err (is_white b) (skip_from false bs) (Err Header) d e)
 
-number_err : (bytes : List ℕ) (d : ReadFault) → number_at bytes ≡ Err d → Header ≡ d
-unfolding number_at
+number_err : (bytes : List ℕ) (d : ReadFault) → number_in_text bytes ≡ Err d → Header ≡ d
+unfolding number_in_text
 number_err [] d e = err_is {A = ℕ × List ℕ} Header d e
 number_err (b ∷ bs) d e = err_is {A = ℕ × List ℕ} Header d (else_err (is_digit b) (digits_from 0 (b ∷ bs)) (Err Header) d e)
 
 field_err : (bytes : List ℕ) (d : ReadFault) → field_at bytes ≡ Err d → Header ≡ d
 unfolding field_at
-field_err bytes d e = only-then Header (gap_at bytes) number_at (gap_err bytes) number_err d e
+field_err bytes d e = only-then Header (gap_at bytes) number_in_text (gap_err bytes) number_err d e
 
 maxval_err : (format : Format) (bytes : List ℕ) (d : ReadFault) → maxval_at format bytes ≡ Err d → Header ≡ d
 unfolding maxval_at
@@ -134,8 +134,8 @@ bit_fault : (b : ℕ) (bs : List ℕ) (d : ReadFault) → bit_at (b ∷ bs) ≡ 
 unfolding bit_at
 bit_fault b bs d e = err_is {A = ℕ × List ℕ} Sample d (else_err (eqb b 48 || eqb b 49) (b - 48, bs) (Err Sample) d e)
 
-level_fault : (m left b : ℕ) (bs : List ℕ) (d : ReadFault) → level_at m left (b ∷ bs) ≡ Err d → Sample ≡ d
-unfolding level_at
+level_fault : (m left b : ℕ) (bs : List ℕ) (d : ReadFault) → level_in_text m left (b ∷ bs) ≡ Err d → Sample ≡ d
+unfolding level_in_text
 level_fault m left b bs d e =
     let found = digits_from 0 (b ∷ bs) in
     elim (cond-chosen (is_digit b) (cond (ltb m (found.0)) (Err Sample) (apart left found)) (Err Sample) (Err d) e) [
@@ -195,24 +195,24 @@ bit_short : bit_at [] ≡ Err Short
 unfolding bit_at
 bit_short = refl
 
-level_short : (m left : ℕ) → level_at m left [] ≡ Err Short
-unfolding level_at
+level_short : (m left : ℕ) → level_in_text m left [] ≡ Err Short
+unfolding level_in_text
 level_short m left = refl
 
-reads_pixels : ReadsPlace pixel_at IsPixel 1
-unfolding pixel_at
+reads_pixels : ReadsPlace pixel_in_text IsPixel 1
+unfolding pixel_in_text
 reads_pixels = record {
   parts = λ left bytes x e. let p = pixel_parts left bytes x e in (p, p.3);
   whole = λ left bytes s rest is le. pixel_whole left bytes s rest is;
   refuses = λ left bytes. place_refuses IsPixel 1 left bytes bit_at bit_short bit_fault (λ x e. let p = pixel_parts left bytes x e in (p, p.3)) (λ s rest is le. pixel_whole left bytes s rest is);
 }
 
-pub reads_samples : (m : ℕ) → m ≤ 65535 → ReadsPlace (sample_at m) IsSample m
-unfolding sample_at
+pub reads_samples : (m : ℕ) → m ≤ 65535 → ReadsPlace (sample_in_text m) IsSample m
+unfolding sample_in_text
 reads_samples m low = record {
   parts = λ left bytes x e. (sample_parts m left bytes x low e, sample_small m left bytes x e);
   whole = λ left bytes s rest is le. sample_whole m left bytes s rest is le low;
-  refuses = λ left bytes. place_refuses IsSample m left bytes (level_at m left) (level_short m left) (level_fault m left) (λ x e. (sample_parts m left bytes x low e, sample_small m left bytes x e))
+  refuses = λ left bytes. place_refuses IsSample m left bytes (level_in_text m left) (level_short m left) (level_fault m left) (λ x e. (sample_parts m left bytes x low e, sample_small m left bytes x e))
       (λ s rest is le. sample_whole m left bytes s rest is le low);
 }
 
@@ -242,8 +242,8 @@ plain_refuses place Place m reader (suc n) bytes =
     from c (wrong left all shows none) = inl (inr (refl, shows, none))
     from c (later left all k s rest is le r) = inr ((s, rest), reader.whole n bytes s rest is le, r)
 
-pub pixels_refuses : (n : ℕ) (bytes : List ℕ) → RefusesAs code_of (plain_at pixel_at n bytes) (PlainRefuses IsPixel 1 n bytes)
-pixels_refuses n bytes = plain_refuses pixel_at IsPixel 1 reads_pixels n bytes
+pub pixels_refuses : (n : ℕ) (bytes : List ℕ) → RefusesAs code_of (plain_at pixel_in_text n bytes) (PlainRefuses IsPixel 1 n bytes)
+pixels_refuses n bytes = plain_refuses pixel_in_text IsPixel 1 reads_pixels n bytes
 
 -- ---- want of memory is no refusal
 

@@ -10,8 +10,8 @@ use Rattle.mw_model.specs.Rasters.{raster}
 use Rattle.mw_pixel.specs.mw_pixel_words.Packed.{samples_of, IsPacked}
 use Rattle.mw_netpbm_plain.specs.declared.fault.ReadFault.{ReadFault}
 use Rattle.mw_netpbm_plain.specs.declared.fault.ReadFault.TheVariants.{NoMemory}
-use Rattle.mw_netpbm_plain.specs.Reading.{◌>>=◌, Fails, fault_of}
-use Rattle.mw_netpbm_plain.specs.Plain.{plain_at, tail_at, pixel_at, front_at}
+use Rattle.mw_netpbm_plain.specs.Reading.{◌>>=◌, Fails, fault_alone}
+use Rattle.mw_netpbm_plain.specs.Plain.{plain_at, tail_at, pixel_in_text, front_at}
 use Rattle.mw_netpbm_plain.specs.SetWords.{in_words, in_rows, word_at}
 use Rattle.mw_netpbm_plain.specs.Whole.{raster_from}
 use Rattle.mw_netpbm_plain.proofs.Sides.{bind_ok, ok_is}
@@ -22,8 +22,8 @@ use Rattle.mw_netpbm_plain.proofs.Whole.{pixels_fit}
 
 -- ---- fronts
 
-same_pixel : (m n : ℕ) (bytes : List ℕ) → pixel_at m bytes ≡ pixel_at n bytes
-unfolding pixel_at
+same_pixel : (m n : ℕ) (bytes : List ℕ) → pixel_in_text m bytes ≡ pixel_in_text n bytes
+unfolding pixel_in_text
 same_pixel m n bytes = refl
 
 -- a pixel before those at the front
@@ -35,11 +35,11 @@ abbrev after_pixel : ℕ → Result (ℕ × List ℕ) ReadFault → Result (List
 after_pixel n pixel = pixel >>= λ first. one_before first.0 (front_at n first.1)
 
 -- the first of so many pixels at the front
-front_more : (n : ℕ) (bytes after : List ℕ) (x : ℕ) → pixel_at 0 bytes ≡ Ok (x, after) → front_at (suc n) bytes ≡ one_before x (front_at n after)
+front_more : (n : ℕ) (bytes after : List ℕ) (x : ℕ) → pixel_in_text 0 bytes ≡ Ok (x, after) → front_at (suc n) bytes ≡ one_before x (front_at n after)
 unfolding front_at
 front_more n bytes after x is = ap (after_pixel n) (same_pixel n 0 bytes ∙ is)
 
-front_fault : (n : ℕ) (bytes : List ℕ) (d : ReadFault) → pixel_at 0 bytes ≡ Err d → front_at (suc n) bytes ≡ Err d
+front_fault : (n : ℕ) (bytes : List ℕ) (d : ReadFault) → pixel_in_text 0 bytes ≡ Err d → front_at (suc n) bytes ≡ Err d
 unfolding front_at
 front_fault n bytes d is = ap (after_pixel n) (same_pixel n 0 bytes ∙ is)
 
@@ -72,13 +72,13 @@ unfolding front_at
 front_parts zero m bytes = let count : 0 + m ≡ m = omega arith in ap (λ (k : ℕ). front_at k bytes) count ∙ joined_nil (front_at m bytes)
 front_parts (suc n) m bytes =
     let count : suc n + m ≡ suc (n + m) = omega arith in
-    ap (λ (k : ℕ). front_at k bytes) count ∙ ap (after_pixel (n + m)) (same_pixel (n + m) n bytes) ∙ then_joined n m (pixel_at n bytes) (front_parts n m)
+    ap (λ (k : ℕ). front_at k bytes) count ∙ ap (after_pixel (n + m)) (same_pixel (n + m) n bytes) ∙ then_joined n m (pixel_in_text n bytes) (front_parts n m)
 
 pub front_length : (n : ℕ) (bytes : List ℕ) (f : List ℕ × List ℕ) → front_at n bytes ≡ Ok f → length f.0 ≡ n
 unfolding front_at
 front_length zero bytes f is = ap (λ (g : List ℕ × List ℕ). length g.0) (sym (ok_is ([], bytes) f is))
 front_length (suc n) bytes f is =
-    let a = bind_ok (pixel_at n bytes) (λ first. front_at n first.1 >>= λ others. Ok (first.0 ∷ others.0, others.1)) f is in
+    let a = bind_ok (pixel_in_text n bytes) (λ first. front_at n first.1 >>= λ others. Ok (first.0 ∷ others.0, others.1)) f is in
     let b = bind_ok (front_at n a.0.1) (λ others. Ok (a.0.0 ∷ others.0, others.1)) f a.2 in
     ap (λ (g : List ℕ × List ℕ). length g.0) (sym (ok_is (a.0.0 ∷ b.0.0, b.0.1) f b.2)) ∙ ap suc (front_length n a.0.1 b.0 b.1)
 
@@ -128,7 +128,7 @@ same_sum i word new s new-is (Ok f) =
     ap made (sums i word new s (number_l 2 f.0) new-is)
 same_sum i word new s new-is (Err d) = refl
 
-pub one_pixel_more : (count i word new s : ℕ) (bytes after : List ℕ) (total : Result (ℕ × List ℕ) ReadFault) → i < count → pixel_at 0 bytes ≡ Ok (s, after) → new ≡ word + s * 2 ^ i
+pub one_pixel_more : (count i word new s : ℕ) (bytes after : List ℕ) (total : Result (ℕ × List ℕ) ReadFault) → i < count → pixel_in_text 0 bytes ≡ Ok (s, after) → new ≡ word + s * 2 ^ i
     → numbered word i (front_at (count - i) bytes) ≡ total → numbered new (i + 1) (front_at (count - (i + 1)) after) ≡ total
 one_pixel_more count i word new s bytes after total lt is new-is so_far =
     let left = count - (i + 1) in
@@ -138,7 +138,7 @@ one_pixel_more count i word new s bytes after total lt is new-is so_far =
     ∙ ap (λ (n : ℕ). numbered word i (front_at n bytes)) k
     ∙ so_far
 
-pub fault_pixel : (count i word : ℕ) (bytes : List ℕ) (d : ReadFault) (total : Result (ℕ × List ℕ) ReadFault) → i < count → pixel_at 0 bytes ≡ Err d → numbered word i (front_at (count - i) bytes) ≡ total → Err d ≡ total
+pub fault_pixel : (count i word : ℕ) (bytes : List ℕ) (d : ReadFault) (total : Result (ℕ × List ℕ) ReadFault) → i < count → pixel_in_text 0 bytes ≡ Err d → numbered word i (front_at (count - i) bytes) ≡ total → Err d ≡ total
 fault_pixel count i word bytes d total lt is so_far =
     let k : count - i ≡ suc (count - (i + 1)) = omega arith in
     sym (ap (numbered word i) (ap (λ (n : ℕ). front_at n bytes) k ∙ front_fault (count - (i + 1)) bytes d is)) ∙ so_far
@@ -263,7 +263,7 @@ all_words left out bytes total le so_far =
 
 -- the words so far, and those of the rows that are still to come
 abbrev pub rows_made : List ℕ → ℕ → ℕ → List ℕ → Result (List ℕ) ReadFault
-rows_made out width height bytes = plain_at pixel_at (height * width) bytes >>= λ xs. Ok (out ++ in_rows width height xs)
+rows_made out width height bytes = plain_at pixel_in_text (height * width) bytes >>= λ xs. Ok (out ++ in_rows width height xs)
 
 front_nil : (read : Result (List ℕ) ReadFault) → read ≡ with_front [] read
 front_nil (Ok xs) = refl
@@ -275,29 +275,29 @@ cons_front x xs (Err d) = refl
 
 -- pixels at the front, and the others
 abbrev then_plain : ℕ → Result (List ℕ × List ℕ) ReadFault → Result (List ℕ) ReadFault
-then_plain m front = front >>= λ f. with_front f.0 (plain_at pixel_at m f.1)
+then_plain m front = front >>= λ f. with_front f.0 (plain_at pixel_in_text m f.1)
 
 -- a pixel before the others
 abbrev pixel_plain : ℕ → Result (List ℕ) ReadFault → Result (List ℕ) ReadFault
 pixel_plain x read = read >>= λ others. Ok (x ∷ others)
 
 abbrev after_plain : ℕ → Result (ℕ × List ℕ) ReadFault → Result (List ℕ) ReadFault
-after_plain n pixel = pixel >>= λ first. pixel_plain first.0 (plain_at pixel_at n first.1)
+after_plain n pixel = pixel >>= λ first. pixel_plain first.0 (plain_at pixel_in_text n first.1)
 
 first_front : (m x : ℕ) (front : Result (List ℕ × List ℕ) ReadFault) → pixel_plain x (then_plain m front) ≡ then_plain m (one_before x front)
-first_front m x (Ok f) = cons_front x f.0 (plain_at pixel_at m f.1)
+first_front m x (Ok f) = cons_front x f.0 (plain_at pixel_in_text m f.1)
 first_front m x (Err d) = refl
 
-all_front : (n m : ℕ) (pixel : Result (ℕ × List ℕ) ReadFault) → ((bytes : List ℕ) → plain_at pixel_at (n + m) bytes ≡ then_plain m (front_at n bytes)) → after_plain (n + m) pixel ≡ then_plain m (after_pixel n pixel)
+all_front : (n m : ℕ) (pixel : Result (ℕ × List ℕ) ReadFault) → ((bytes : List ℕ) → plain_at pixel_in_text (n + m) bytes ≡ then_plain m (front_at n bytes)) → after_plain (n + m) pixel ≡ then_plain m (after_pixel n pixel)
 all_front n m (Ok p) parts = ap (pixel_plain p.0) (parts p.1) ∙ first_front m p.0 (front_at n p.1)
 all_front n m (Err d) parts = refl
 
-plain_parts : (n m : ℕ) (bytes : List ℕ) → plain_at pixel_at (n + m) bytes ≡ then_plain m (front_at n bytes)
+plain_parts : (n m : ℕ) (bytes : List ℕ) → plain_at pixel_in_text (n + m) bytes ≡ then_plain m (front_at n bytes)
 unfolding plain_at front_at
-plain_parts zero m bytes = let count : 0 + m ≡ m = omega arith in ap (λ (k : ℕ). plain_at pixel_at k bytes) count ∙ front_nil (plain_at pixel_at m bytes)
+plain_parts zero m bytes = let count : 0 + m ≡ m = omega arith in ap (λ (k : ℕ). plain_at pixel_in_text k bytes) count ∙ front_nil (plain_at pixel_in_text m bytes)
 plain_parts (suc n) m bytes =
     let count : suc n + m ≡ suc (n + m) = omega arith in
-    ap (λ (k : ℕ). plain_at pixel_at k bytes) count ∙ ap (after_plain (n + m)) (same_pixel (n + m) n bytes) ∙ all_front n m (pixel_at n bytes) (plain_parts n m)
+    ap (λ (k : ℕ). plain_at pixel_in_text k bytes) count ∙ ap (after_plain (n + m)) (same_pixel (n + m) n bytes) ∙ all_front n m (pixel_in_text n bytes) (plain_parts n m)
 
 row_then : (width m : ℕ) (out new row : List ℕ) (read : Result (List ℕ) ReadFault) → length row ≡ width → out ++ in_words ((width + 63) / 64) row ≡ new
     → (with_front row read >>= λ xs. Ok (out ++ in_rows width (suc m) xs)) ≡ (read >>= λ ys. Ok (new ++ in_rows width m ys))
@@ -313,12 +313,12 @@ row_then width m out new row (Ok ys) len new-is =
 row_then width m out new row (Err d) len new-is = refl
 
 -- the pixels of one row, and of the others
-row_parts : (width height y : ℕ) (bytes : List ℕ) → y < height → plain_at pixel_at ((height - y) * width) bytes ≡ then_plain ((height - (y + 1)) * width) (front_at width bytes)
+row_parts : (width height y : ℕ) (bytes : List ℕ) → y < height → plain_at pixel_in_text ((height - y) * width) bytes ≡ then_plain ((height - (y + 1)) * width) (front_at width bytes)
 row_parts width height y bytes lt =
     let m = height - (y + 1) in
     let k : height - y ≡ suc (height - (y + 1)) = omega arith in
     let sum : suc m * width ≡ width + m * width = add m width in
-    ap (λ (n : ℕ). plain_at pixel_at (n * width) bytes) k ∙ ap (λ (n : ℕ). plain_at pixel_at n bytes) sum ∙ plain_parts width (m * width) bytes
+    ap (λ (n : ℕ). plain_at pixel_in_text (n * width) bytes) k ∙ ap (λ (n : ℕ). plain_at pixel_in_text n bytes) sum ∙ plain_parts width (m * width) bytes
   where
     add : (m w : ℕ) → suc m * w ≡ w + m * w
     add m w = omega arith
@@ -332,8 +332,8 @@ one_row_read width height y out new bytes after total lt is so_far =
     let after-is : a.0.1 ≡ after = ap (λ (p : List ℕ × List ℕ). p.1) same in
     let m = height - (y + 1) in
     let k : suc (height - (y + 1)) ≡ height - y = omega arith in
-    let read = plain_at pixel_at (m * width) a.0.1 in
-    let parts : plain_at pixel_at ((height - y) * width) bytes ≡ with_front a.0.0 read =
+    let read = plain_at pixel_in_text (m * width) a.0.1 in
+    let parts : plain_at pixel_in_text ((height - y) * width) bytes ≡ with_front a.0.0 read =
     row_parts width height y bytes lt ∙ ap (then_plain (m * width)) a.1 in
     ap (rows_made new width m) (sym after-is)
     ∙ sym (row_then width m out new a.0.0 read (front_length width bytes a.0 a.1) new-is)
@@ -344,7 +344,7 @@ one_row_read width height y out new bytes after total lt is so_far =
 pub fault_row : (width height y : ℕ) (out bytes : List ℕ) (d : ReadFault) (total : Result (List ℕ) ReadFault) → y < height → Err d ≡ words_made out width bytes → rows_made out width (height - y) bytes ≡ total → Err d ≡ total
 fault_row width height y out bytes d total lt is so_far =
     let m = height - (y + 1) in
-    let parts : plain_at pixel_at ((height - y) * width) bytes ≡ Err d =
+    let parts : plain_at pixel_in_text ((height - y) * width) bytes ≡ Err d =
     row_parts width height y bytes lt ∙ ap (then_plain (m * width)) (worded_err out ((width + 63) / 64) (front_at width bytes) d is) in
     sym (ap (λ (r : Result (List ℕ) ReadFault). r >>= λ xs. Ok (out ++ in_rows width (height - y) xs)) parts) ∙ so_far
 
@@ -356,28 +356,28 @@ end_fault : (out : List ℕ) (read : Result (List ℕ) ReadFault) (d : ReadFault
 end_fault out (Ok xs) d is = absurd cc
 end_fault out (Err e) d is = is
 
-last_rows : (width height y : ℕ) (out bytes : List ℕ) → height ≤ y → (plain_at pixel_at 0 bytes >>= λ xs. Ok (out ++ [])) ≡ rows_made out width (height - y) bytes
+last_rows : (width height y : ℕ) (out bytes : List ℕ) → height ≤ y → (plain_at pixel_in_text 0 bytes >>= λ xs. Ok (out ++ [])) ≡ rows_made out width (height - y) bytes
 unfolding in_rows
 last_rows width height y out bytes le =
     let none : 0 ≡ height - y = omega arith in
     let nothing : 0 ≡ 0 * width = omega arith in
-    ap (λ (n : ℕ). plain_at pixel_at n bytes >>= λ xs. Ok (out ++ [])) nothing ∙ ap (λ (n : ℕ). rows_made out width n bytes) none
+    ap (λ (n : ℕ). plain_at pixel_in_text n bytes >>= λ xs. Ok (out ++ [])) nothing ∙ ap (λ (n : ℕ). rows_made out width n bytes) none
 
-pub all_rows_read : (width height y : ℕ) (out bytes : List ℕ) (total : Result (List ℕ) ReadFault) → height ≤ y → fault_of (tail_at bytes) ≡ None → rows_made out width (height - y) bytes ≡ total → Ok out ≡ total
+pub all_rows_read : (width height y : ℕ) (out bytes : List ℕ) (total : Result (List ℕ) ReadFault) → height ≤ y → fault_alone (tail_at bytes) ≡ None → rows_made out width (height - y) bytes ≡ total → Ok out ≡ total
 all_rows_read width height y out bytes total le h so_far =
-    end_rows out (plain_at pixel_at 0 bytes) (all_filled pixel_at 0 bytes out (with_front out (plain_at pixel_at 0 bytes)) (omega arith) h refl) ∙ last_rows width height y out bytes le ∙ so_far
+    end_rows out (plain_at pixel_in_text 0 bytes) (all_filled pixel_in_text 0 bytes out (with_front out (plain_at pixel_in_text 0 bytes)) (omega arith) h refl) ∙ last_rows width height y out bytes le ∙ so_far
 
-pub tail_row : (width height y : ℕ) (out bytes : List ℕ) (d : ReadFault) (total : Result (List ℕ) ReadFault) → height ≤ y → fault_of (tail_at bytes) ≡ Some d → rows_made out width (height - y) bytes ≡ total → Err d ≡ total
+pub tail_row : (width height y : ℕ) (out bytes : List ℕ) (d : ReadFault) (total : Result (List ℕ) ReadFault) → height ≤ y → fault_alone (tail_at bytes) ≡ Some d → rows_made out width (height - y) bytes ≡ total → Err d ≡ total
 tail_row width height y out bytes d total le h so_far =
-    end_fault out (plain_at pixel_at 0 bytes) d (tail_filled pixel_at 0 bytes out d (with_front out (plain_at pixel_at 0 bytes)) (omega arith) h refl) ∙ last_rows width height y out bytes le ∙ so_far
+    end_fault out (plain_at pixel_in_text 0 bytes) d (tail_filled pixel_in_text 0 bytes out d (with_front out (plain_at pixel_in_text 0 bytes)) (omega arith) h refl) ∙ last_rows width height y out bytes le ∙ so_far
 
 -- ---- the set
 
 -- what is read in words is packed, and shows what is read
-pub set_found : (width height : ℕ) (bytes words : List ℕ) → Ok words ≡ (plain_at pixel_at (height * width) bytes >>= λ xs. Ok (in_rows width height xs))
-    → IsPacked width height words × (raster_from width height (plain_at pixel_at (height * width) bytes) ≡ Ok (raster width height (samples_of width height words)))
+pub set_found : (width height : ℕ) (bytes words : List ℕ) → Ok words ≡ (plain_at pixel_in_text (height * width) bytes >>= λ xs. Ok (in_rows width height xs))
+    → IsPacked width height words × (raster_from width height (plain_at pixel_in_text (height * width) bytes) ≡ Ok (raster width height (samples_of width height words)))
 set_found width height bytes words is =
-    let a = bind_ok (plain_at pixel_at (height * width) bytes) (λ xs. Ok (in_rows width height xs)) words (sym is) in
+    let a = bind_ok (plain_at pixel_in_text (height * width) bytes) (λ xs. Ok (in_rows width height xs)) words (sym is) in
     let words-are = sym (ok_is (in_rows width height a.0) words a.2) in
     let fit = pixels_fit (height * width) bytes a.0 a.1 in
     let small = recursion_from_All (λ s. s ≤ 1) a.0 fit.1 in (
@@ -389,6 +389,6 @@ pub set_fault : (width height : ℕ) (read : Result (List ℕ) ReadFault) (d : R
 set_fault width height (Ok xs) d is = absurd cc
 set_fault width height (Err e) d is = let same : e ≡ d = cc in ap (λ (x : ReadFault). Err x) same
 
-pub set_wanting : (width height : ℕ) (read : Result (List ℕ) ReadFault) → fault_of read ≡ None → Fails NoMemory (raster_from width height read)
+pub set_wanting : (width height : ℕ) (read : Result (List ℕ) ReadFault) → fault_alone read ≡ None → Fails NoMemory (raster_from width height read)
 set_wanting width height (Ok xs) h = inl refl
 set_wanting width height (Err d) h = absurd (let clash : Some d ≡ None = h in cc)

@@ -4,9 +4,9 @@ use Rattle.std.proofs.lemmas.Bool.{ltb-false, le-ltb}
 use Rattle.std.proofs.lemmas.Bool.Decides.{nat_tests}
 use Rattle.mw_netpbm_plain.specs.declared.fault.ReadFault.{ReadFault}
 use Rattle.mw_netpbm_plain.specs.declared.fault.ReadFault.TheVariants.{Header, Sample, Trailing}
-use Rattle.mw_netpbm_plain.specs.Reading.{◌>>=◌, skip_from, digits_from, number_at}
+use Rattle.mw_netpbm_plain.specs.Reading.{◌>>=◌, skip_from, digits_from, number_in_text}
 use Rattle.mw_model.specs.NetpbmGrammar.{is_white, is_digit, NoDigit, Blank, IsNumber, IsTail, IsPixel, IsApart, IsSample, IsPlain, value_after}
-use Rattle.mw_netpbm_plain.specs.Plain.{plain_at, tail_at, bit_at, pixel_at, apart, level_at, sample_at}
+use Rattle.mw_netpbm_plain.specs.Plain.{plain_at, tail_at, bit_at, pixel_in_text, apart, level_in_text, sample_in_text}
 use Rattle.mw_netpbm_plain.proofs.Whole.{cond-chosen}
 use Rattle.mw_netpbm_plain.proofs.Sides.{Within, bind_ok, guard_ok, ok_is, plain_length, tail_nil}
 use Rattle.mw_netpbm_plain.proofs.Blanks.{skip_blank, Visible, skip_visible, Skipped, at_visible, at_end, in_comment, skipped, cap, Numbered, number_parts, digits_whole, white_no_digit}
@@ -56,8 +56,8 @@ pixel_visible zero le = (refl, refl)
 pixel_visible (suc zero) le = (refl, refl)
 pixel_visible (suc (suc s)) le = absurd (omega (arith, le))
 
-pub pixel_whole : (left : ℕ) (bytes : List ℕ) (s : ℕ) (rest : List ℕ) → IsPixel left bytes s rest → pixel_at left bytes ≡ Ok (s, rest)
-unfolding pixel_at
+pub pixel_whole : (left : ℕ) (bytes : List ℕ) (s : ℕ) (rest : List ℕ) → IsPixel left bytes s rest → pixel_in_text left bytes ≡ Ok (s, rest)
+unfolding pixel_in_text
 pixel_whole left bytes s rest (blank, parts, bl, le) =
     ap (λ (b : List ℕ). bit_at (skip_from false b)) parts ∙ ap bit_at (skip_blank blank ((48 + s) ∷ rest) bl ∙ skip_visible (48 + s) rest (pixel_visible s le)) ∙ bit_whole s rest le
 
@@ -83,8 +83,8 @@ pixel_found left bytes seen x (at_visible blank b bs bl v) e =
 pixel_found left bytes seen x (at_end all bl) e = absurd cc
 pixel_found left bytes seen x (in_comment blank text bl all) e = absurd cc
 
-pub pixel_parts : (left : ℕ) (bytes : List ℕ) (x : ℕ × List ℕ) → pixel_at left bytes ≡ Ok x → IsPixel left bytes x.0 x.1
-unfolding pixel_at
+pub pixel_parts : (left : ℕ) (bytes : List ℕ) (x : ℕ × List ℕ) → pixel_in_text left bytes ≡ Ok x → IsPixel left bytes x.0 x.1
+unfolding pixel_in_text
 pixel_parts left bytes x e = pixel_found left bytes (skip_from false bytes) x (skipped bytes) e
 
 -- what the test after a sample shows
@@ -112,12 +112,12 @@ apart_whole zero n rest h = refl
 apart_whole (suc left) n [] h = refl
 apart_whole (suc left) n (b ∷ bs) h = ap (λ (x : Bool). cond x (Ok (n, b ∷ bs)) (Err Sample)) h
 
-number_is : (b : ℕ) (bs : List ℕ) → is_digit b ≡ true → number_at (b ∷ bs) ≡ Ok (digits_from 0 (b ∷ bs))
-unfolding number_at
+number_is : (b : ℕ) (bs : List ℕ) → is_digit b ≡ true → number_in_text (b ∷ bs) ≡ Ok (digits_from 0 (b ∷ bs))
+unfolding number_in_text
 number_is b bs d = ap (λ (x : Bool). cond x (Ok (digits_from 0 (b ∷ bs))) (Err Header)) d
 
-level_cases : (maxval left b : ℕ) (bs : List ℕ) (x : ℕ × List ℕ) → level_at maxval left (b ∷ bs) ≡ Ok x → (number_at (b ∷ bs) ≡ Ok x) × (x.0 ≤ maxval) × AfterIt left x.1
-unfolding level_at
+level_cases : (maxval left b : ℕ) (bs : List ℕ) (x : ℕ × List ℕ) → level_in_text maxval left (b ∷ bs) ≡ Ok x → (number_in_text (b ∷ bs) ≡ Ok x) × (x.0 ≤ maxval) × AfterIt left x.1
+unfolding level_in_text
 level_cases maxval left b bs x e =
     let d = digits_from 0 (b ∷ bs) in
     elim (cond-chosen (is_digit b) (cond (ltb maxval (d.0)) (Err Sample) (apart left d)) (Err Sample) (Ok x) e) [
@@ -135,20 +135,20 @@ sample_found maxval left blank bytes x low bl small after n =
     (blank, n.text, ap (λ (t : List ℕ). blank ++ t) n.parts, bl, subst (λ k. IsNumber n.text k) value n.is_number, apart_from left x.1 after n.stops)
 
 -- samples within 16 bits are not capped
-level_found : (maxval left : ℕ) (bytes seen : List ℕ) (x : ℕ × List ℕ) → maxval ≤ 65535 → Skipped bytes seen → level_at maxval left seen ≡ Ok x → IsSample left bytes x.0 x.1
-unfolding level_at
+level_found : (maxval left : ℕ) (bytes seen : List ℕ) (x : ℕ × List ℕ) → maxval ≤ 65535 → Skipped bytes seen → level_in_text maxval left seen ≡ Ok x → IsSample left bytes x.0 x.1
+unfolding level_in_text
 level_found maxval left bytes seen x low (at_visible blank b bs bl v) e =
     let c = level_cases maxval left b bs x e in
     sample_found maxval left blank (b ∷ bs) x low bl c.1 c.2 (number_parts (b ∷ bs) x c.0)
 level_found maxval left bytes seen x low (at_end all bl) e = absurd cc
 level_found maxval left bytes seen x low (in_comment blank text bl all) e = absurd cc
 
-pub sample_parts : (maxval left : ℕ) (bytes : List ℕ) (x : ℕ × List ℕ) → maxval ≤ 65535 → sample_at maxval left bytes ≡ Ok x → IsSample left bytes x.0 x.1
-unfolding sample_at
+pub sample_parts : (maxval left : ℕ) (bytes : List ℕ) (x : ℕ × List ℕ) → maxval ≤ 65535 → sample_in_text maxval left bytes ≡ Ok x → IsSample left bytes x.0 x.1
+unfolding sample_in_text
 sample_parts maxval left bytes x low e = level_found maxval left bytes (skip_from false bytes) x low (skipped bytes) e
 
-level_whole : (maxval left : ℕ) (text rest : List ℕ) (s : ℕ) → IsNumber text s → NoDigit rest → IsApart left rest → s ≤ maxval → maxval ≤ 65535 → level_at maxval left (text ++ rest) ≡ Ok (s, rest)
-unfolding level_at
+level_whole : (maxval left : ℕ) (text rest : List ℕ) (s : ℕ) → IsNumber text s → NoDigit rest → IsApart left rest → s ≤ maxval → maxval ≤ 65535 → level_in_text maxval left (text ++ rest) ≡ Ok (s, rest)
+unfolding level_in_text
 level_whole maxval left [] rest s is stop after le low = absurd (omega (arith, is.some))
 level_whole maxval left (d ∷ text) rest s is stop after le low =
     let small : cap (value_after 0 (d ∷ text)) ≡ s = omega (arith, is.value) in
@@ -167,9 +167,9 @@ apart_stops zero [] h = tt
 apart_stops zero (b ∷ bs) h = h
 apart_stops (suc left) rest h = tail_stops rest h
 
-pub sample_whole : (maxval left : ℕ) (bytes : List ℕ) (s : ℕ) (rest : List ℕ) → IsSample left bytes s rest → s ≤ maxval → maxval ≤ 65535 → sample_at maxval left bytes ≡ Ok (s, rest)
-unfolding sample_at
+pub sample_whole : (maxval left : ℕ) (bytes : List ℕ) (s : ℕ) (rest : List ℕ) → IsSample left bytes s rest → s ≤ maxval → maxval ≤ 65535 → sample_in_text maxval left bytes ≡ Ok (s, rest)
+unfolding sample_in_text
 sample_whole maxval left bytes s rest (blank, digits, parts, bl, is, after) le low =
-    ap (λ (b : List ℕ). level_at maxval left (skip_from false b)) parts
-    ∙ ap (level_at maxval left) (skip_blank blank (digits ++ rest) bl ∙ skip_number digits rest s is)
+    ap (λ (b : List ℕ). level_in_text maxval left (skip_from false b)) parts
+    ∙ ap (level_in_text maxval left) (skip_blank blank (digits ++ rest) bl ∙ skip_number digits rest s is)
     ∙ level_whole maxval left digits rest s is (apart_stops left rest after) after le low

@@ -6,7 +6,7 @@ use Rattle.std.proofs.lemmas.List.Elements.{All-from_recursion}
 use Rattle.mw_netpbm_plain.specs.declared.fault.ReadFault.TheVariants.{Sample}
 use Rattle.mw_netpbm_plain.specs.Reading.{skip_from, digits_from}
 use Rattle.mw_model.specs.NetpbmGrammar.{is_white, is_digit}
-use Rattle.mw_netpbm_plain.specs.Plain.{plain_at, bit_at, pixel_at, apart, level_at, sample_at}
+use Rattle.mw_netpbm_plain.specs.Plain.{plain_at, bit_at, pixel_in_text, apart, level_in_text, sample_in_text}
 use Rattle.mw_netpbm_plain.specs.Whole.{IsFit}
 use Rattle.mw_netpbm_plain.proofs.Sides.{guard_ok, ok_is, plain_length, plain_within}
 
@@ -37,8 +37,8 @@ apart_value (suc left) (n, b ∷ bs) x e =
       | inr w ↦ absurd (let clash : Err Sample ≡ Ok x = w.1 in cc)
     ]
 
-level_small : (maxval left : ℕ) (bytes : List ℕ) (x : ℕ × List ℕ) → level_at maxval left bytes ≡ Ok x → x.0 ≤ maxval
-unfolding level_at
+level_small : (maxval left : ℕ) (bytes : List ℕ) (x : ℕ × List ℕ) → level_in_text maxval left bytes ≡ Ok x → x.0 ≤ maxval
+unfolding level_in_text
 level_small maxval left [] x e = absurd cc
 level_small maxval left (b ∷ bs) x e =
     let d = digits_from 0 (b ∷ bs) in
@@ -50,14 +50,14 @@ level_small maxval left (b ∷ bs) x e =
       | inr w ↦ absurd (let clash : Err Sample ≡ Ok x = w.1 in cc)
     ]
 
-pub pixels_fit : (count : ℕ) (bytes xs : List ℕ) → plain_at pixel_at count bytes ≡ Ok xs → IsFit count 1 xs
-unfolding pixel_at
-pixels_fit count bytes xs e = (plain_length pixel_at count bytes xs e, All-from_recursion (λ s. s ≤ 1) xs (plain_within pixel_at 1 (λ left rest x h. bit_small (skip_from false rest) x h) count bytes xs e))
+pub pixels_fit : (count : ℕ) (bytes xs : List ℕ) → plain_at pixel_in_text count bytes ≡ Ok xs → IsFit count 1 xs
+unfolding pixel_in_text
+pixels_fit count bytes xs e = (plain_length pixel_in_text count bytes xs e, All-from_recursion (λ s. s ≤ 1) xs (plain_within pixel_in_text 1 (λ left rest x h. bit_small (skip_from false rest) x h) count bytes xs e))
 
-pub sample_small : (m left : ℕ) (bytes : List ℕ) (x : ℕ × List ℕ) → sample_at m left bytes ≡ Ok x → x.0 ≤ m
-unfolding sample_at
+pub sample_small : (m left : ℕ) (bytes : List ℕ) (x : ℕ × List ℕ) → sample_in_text m left bytes ≡ Ok x → x.0 ≤ m
+unfolding sample_in_text
 sample_small m left bytes x e = level_small m left (skip_from false bytes) x e
 
-pub plain_fit : (m count : ℕ) (bytes xs : List ℕ) → plain_at (sample_at m) count bytes ≡ Ok xs → IsFit count m xs
-unfolding sample_at
-plain_fit m count bytes xs e = (plain_length (sample_at m) count bytes xs e, All-from_recursion (λ s. s ≤ m) xs (plain_within (sample_at m) m (λ left rest x h. level_small m left (skip_from false rest) x h) count bytes xs e))
+pub plain_fit : (m count : ℕ) (bytes xs : List ℕ) → plain_at (sample_in_text m) count bytes ≡ Ok xs → IsFit count m xs
+unfolding sample_in_text
+plain_fit m count bytes xs e = (plain_length (sample_in_text m) count bytes xs e, All-from_recursion (λ s. s ≤ m) xs (plain_within (sample_in_text m) m (λ left rest x h. level_small m left (skip_from false rest) x h) count bytes xs e))

@@ -9,8 +9,8 @@ use Rattle.mw_netpbm_plain.specs.declared.fault.BitmapFault.{BitmapFault}
 use Rattle.mw_netpbm_plain.specs.declared.fault.BitmapFault.TheVariants as bitmap
 use Rattle.mw_netpbm_plain.specs.declared.bitmap.BitmapFacts.{BitmapFacts}
 use Rattle.mw_netpbm_plain.specs.Reading.{◌>>=◌}
-use Rattle.mw_netpbm_plain.specs.Plain.{plain_at, pixel_at}
-use Rattle.mw_netpbm_plain.specs.Places.{ones_of}
+use Rattle.mw_netpbm_plain.specs.Plain.{plain_at, pixel_in_text}
+use Rattle.mw_netpbm_plain.specs.PlainSamples.{ones_of}
 use Rattle.mw_netpbm_plain.specs.Whole.{bitmap_head_at}
 
 -- the refusal that a fault of a file stands for
@@ -52,4 +52,4 @@ facts_of f = record { width = f.width; height = f.height; ones = count_by (λ s.
 -- the facts that a scan computes
 unfoldable pub facts_at : ℕ → List ℕ → Result BitmapFacts ReadFault
 facts_at side bytes =
-    bitmap_head_at side bytes >>= λ h. ones_of (plain_at pixel_at (h.0.height * h.0.width) h.1) >>= λ ones. Ok (record { width = h.0.width; height = h.0.height; ones = ones })
+    bitmap_head_at side bytes >>= λ h. ones_of (plain_at pixel_in_text (h.0.height * h.0.width) h.1) >>= λ ones. Ok (record { width = h.0.width; height = h.0.height; ones = ones })

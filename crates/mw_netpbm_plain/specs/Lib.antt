@@ -1,7 +1,7 @@
 pub mod Reading
 pub mod Heading
 pub mod Plain
-pub mod Places
+pub mod PlainSamples
 pub mod Short
 pub mod Tallies
 pub mod Whole

@@ -24,14 +24,14 @@ bit_at [] = Err Short
 bit_at (b ∷ bs) = if (b == 48) || (b == 49) then Ok (b - 48, bs) else Err Sample
 
 -- a pixel, with so many to come
-unfoldable pub pixel_at : ℕ → List ℕ → Result (ℕ × List ℕ) ReadFault
-pixel_at left bytes = bit_at (skip_from false bytes)
+unfoldable pub pixel_in_text : ℕ → List ℕ → Result (ℕ × List ℕ) ReadFault
+pixel_in_text left bytes = bit_at (skip_from false bytes)
 
 -- so many pixels at the front, and what follows them
 unfoldable pub front_at : ℕ → List ℕ → Result (List ℕ × List ℕ) ReadFault
 front_at zero bytes = Ok ([], bytes)
 front_at (suc n) bytes = do
-  first ← pixel_at n bytes
+  first ← pixel_in_text n bytes
   others ← front_at n first.1
   Ok (first.0 ∷ others.0, others.1)
 
@@ -42,11 +42,11 @@ apart (suc left) (n, []) = Ok (n, [])
 apart (suc left) (n, b ∷ bs) = if is_white b then Ok (n, b ∷ bs) else Err Sample
 
 -- a sample, where no white space or comment stands
-unfoldable pub level_at : ℕ → ℕ → List ℕ → Result (ℕ × List ℕ) ReadFault
-level_at maxval left [] = Err Short
-level_at maxval left (b ∷ bs) =
+unfoldable pub level_in_text : ℕ → ℕ → List ℕ → Result (ℕ × List ℕ) ReadFault
+level_in_text maxval left [] = Err Short
+level_in_text maxval left (b ∷ bs) =
     if is_digit b then (if nat_lt maxval ((digits_from 0 (b ∷ bs)).0) then Err Sample else apart left (digits_from 0 (b ∷ bs))) else Err Sample
 
 -- a sample, with so many to come
-unfoldable pub sample_at : ℕ → ℕ → List ℕ → Result (ℕ × List ℕ) ReadFault
-sample_at maxval left bytes = level_at maxval left (skip_from false bytes)
+unfoldable pub sample_in_text : ℕ → ℕ → List ℕ → Result (ℕ × List ℕ) ReadFault
+sample_in_text maxval left bytes = level_in_text maxval left (skip_from false bytes)

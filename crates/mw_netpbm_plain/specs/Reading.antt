@@ -11,9 +11,9 @@ abbrev pub ◌>>=◌ : {A B : Type 0} → Result A ReadFault → (A → Result B
 (Err e) >>= f = Err e
 
 -- a result, seen by view
-abbrev pub seen : {X Y : Type 0} → (X → Y) → Result X ReadFault → Result Y ReadFault
-seen view (Ok x) = Ok (view x)
-seen view (Err e) = Err e
+abbrev pub result_viewed : {X Y : Type 0} → (X → Y) → Result X ReadFault → Result Y ReadFault
+result_viewed view (Ok x) = Ok (view x)
+result_viewed view (Err e) = Err e
 
 -- what stands after white space and comments; the flag says whether the bytes begin inside a comment
 unfoldable pub skip_from : Bool → List ℕ → List ℕ
@@ -32,13 +32,13 @@ digits_from n [] = (n, [])
 digits_from n (b ∷ bs) = if is_digit b then digits_from (min (10 * n + (b - 48)) 4294967296) bs else (n, b ∷ bs)
 
 -- a number at the front
-unfoldable pub number_at : List ℕ → Result (ℕ × List ℕ) ReadFault
-number_at [] = Err Header
-number_at (b ∷ bs) = if is_digit b then Ok (digits_from 0 (b ∷ bs)) else Err Header
+unfoldable pub number_in_text : List ℕ → Result (ℕ × List ℕ) ReadFault
+number_in_text [] = Err Header
+number_in_text (b ∷ bs) = if is_digit b then Ok (digits_from 0 (b ∷ bs)) else Err Header
 
 -- a gap and a number at the front
 unfoldable pub field_at : List ℕ → Result (ℕ × List ℕ) ReadFault
-field_at bytes = gap_at bytes >>= number_at
+field_at bytes = gap_at bytes >>= number_in_text
 
 -- the fault is what reading gives; memory is wanting only where reading gives no fault
 abbrev pub Fails : {Y : Type 0} → ReadFault → Result Y ReadFault → Type 0
@@ -51,6 +51,6 @@ Gives view (Ok x) read = read ≡ Ok (view x)
 Gives view (Err e) read = Fails e read
 
 -- the fault alone
-abbrev pub fault_of : {X : Type 0} → Result X ReadFault → Option ReadFault
-fault_of (Ok x) = None
-fault_of (Err e) = Some e
+abbrev pub fault_alone : {X : Type 0} → Result X ReadFault → Option ReadFault
+fault_alone (Ok x) = None
+fault_alone (Err e) = Some e

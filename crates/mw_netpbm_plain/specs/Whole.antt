@@ -8,7 +8,7 @@ use Rattle.mw_netpbm_plain.specs.declared.fault.ReadFault.{ReadFault}
 use Rattle.mw_netpbm_plain.specs.declared.fault.ReadFault.TheVariants.{Magic}
 use Rattle.mw_netpbm_plain.specs.Reading.{◌>>=◌}
 use Rattle.mw_netpbm_plain.specs.Heading.{magic_at, head_at, side_limits}
-use Rattle.mw_netpbm_plain.specs.Plain.{plain_at, pixel_at}
+use Rattle.mw_netpbm_plain.specs.Plain.{plain_at, pixel_in_text}
 
 -- as many samples as places, and none over the maxval
 abbrev pub IsFit : ℕ → ℕ → List ℕ → Type 0
@@ -38,4 +38,4 @@ pixels_from h read = raster_from h.width h.height read
 
 -- the pixels of a plain bitmap
 unfoldable pub bitmap_at : ℕ → List ℕ → Result (Raster ℕ) ReadFault
-bitmap_at side bytes = bitmap_head_at side bytes >>= λ h. pixels_from h.0 (plain_at pixel_at (h.0.height * h.0.width) h.1)
+bitmap_at side bytes = bitmap_head_at side bytes >>= λ h. pixels_from h.0 (plain_at pixel_in_text (h.0.height * h.0.width) h.1)

@@ -3,7 +3,7 @@
 ghost use Rattle.std.specs.Prelude.{◌≡◌, ◌≢◌, ℕ, ◌*◌, ◌<◌, ◌≤◌, IfOk, IfErr, MatchResult, Ok, Err};
 ghost use Rattle.mw_model.specs.Rasters.{Raster};
 ghost use Rattle.mw_model.specs.Bitmaps.{IsBitmap, BitmapRefuses};
-ghost use Rattle.mw_netpbm_plain.specs.Reading.{seen, Gives};
+ghost use Rattle.mw_netpbm_plain.specs.Reading.{result_viewed, Gives};
 ghost use Rattle.mw_netpbm_plain.specs.Whole.{bitmap_at};
 ghost use Rattle.mw_netpbm_plain.specs.Faults.{facts_at};
 ghost use Rattle.mw_netpbm_plain.specs.Faults.{bitmap_code_of, facts_of};
@@ -65,7 +65,7 @@ fn pixels(alloc: Global, bytes: &[u8], side: u32) -> Result<Plane<Bit>, ReadFaul
 
 #[tactic(auto, unfolding(crate::specs::Faults::facts_at))]
 fn facts(bytes: &[u8], side: u32) -> Result<BitmapFacts, ReadFault>
-    ensures { seen (λ x. x) result ≡ facts_at side bytes.now }
+    ensures { result_viewed (λ x. x) result ≡ facts_at side bytes.now }
 {
     let (head, rest) = read_bitmap_head(bytes, side)?;
     let count = head.height as usize * head.width as usize;

@@ -3,10 +3,10 @@
 ghost use Rattle.std.specs.Prelude.{◌≡◌, ◌≢◌, ◌≤◌, ◌↔◌, ℕ, ◌==◌, nat_lt, if◌then◌else◌, IfOk, IfSome, IsSome, Some, map, vec_capacity};
 ghost use Rattle.mw_model.specs.NetpbmGrammar.{IsSample};
 ghost use Rattle.mw_netpbm_plain.specs.declared.fault.ReadFault.TheVariants.{Short};
-ghost use Rattle.mw_netpbm_plain.specs.Reading.{seen, Gives, fault_of};
-ghost use Rattle.mw_netpbm_plain.specs.Places.{ones_of, place_at, top_of};
+ghost use Rattle.mw_netpbm_plain.specs.Reading.{result_viewed, Gives, fault_alone};
+ghost use Rattle.mw_netpbm_plain.specs.PlainSamples.{ones_of, place_in_text, top_of};
 ghost use Rattle.mw_netpbm_plain.specs.Short.{IsShort};
-ghost use Rattle.mw_netpbm_plain.specs.Plain.{tail_at, plain_at, bit_at, pixel_at, apart, level_at, sample_at};
+ghost use Rattle.mw_netpbm_plain.specs.Plain.{tail_at, plain_at, bit_at, pixel_in_text, apart, level_in_text, sample_in_text};
 
 use crate::fault::ReadFault;
 use crate::room::has_room;
@@ -17,7 +17,7 @@ use std::alloc::{AllocError, Global};
 
 #[tactic(auto, unfolding(crate::specs::Plain::tail_at))]
 pub(crate) fn tail(bytes: &[u8]) -> Result<(), ReadFault>
-    ensures { fault_of result ≡ fault_of (tail_at bytes.now) }
+    ensures { fault_alone result ≡ fault_alone (tail_at bytes.now) }
 {
     match bytes {
         [] => Ok(()),
@@ -26,9 +26,9 @@ pub(crate) fn tail(bytes: &[u8]) -> Result<(), ReadFault>
     }
 }
 
-#[tactic(auto, unfolding(crate::specs::Plain::bit_at, crate::specs::Plain::pixel_at))]
+#[tactic(auto, unfolding(crate::specs::Plain::bit_at, crate::specs::Plain::pixel_in_text))]
 pub(crate) fn pixel(left: usize, bytes: &[u8]) -> Result<(u16, &[u8]), ReadFault>
-    ensures value { seen (λ x. (x.0, x.1.now)) result ≡ pixel_at left bytes.now }
+    ensures value { result_viewed (λ x. (x.0, x.1.now)) result ≡ pixel_in_text left bytes.now }
     ensures small { IfOk result (λ x. x.0 ≤ 1) }
 {
     match skip(bytes) {
@@ -40,9 +40,9 @@ pub(crate) fn pixel(left: usize, bytes: &[u8]) -> Result<(u16, &[u8]), ReadFault
 
 /// A sample, however it is written.
 #[inline(never)]
-#[tactic(auto, unfolding(crate::specs::Plain::level_at, crate::specs::Plain::apart, crate::specs::Plain::sample_at, crate::specs::Reading::number_at))]
+#[tactic(auto, unfolding(crate::specs::Plain::level_in_text, crate::specs::Plain::apart, crate::specs::Plain::sample_in_text, crate::specs::Reading::number_in_text))]
 fn any_sample(maxval: u16, left: usize, bytes: &[u8]) -> Result<(u16, &[u8]), ReadFault>
-    ensures value { seen (λ x. (x.0, x.1.now)) result ≡ sample_at maxval left bytes.now }
+    ensures value { result_viewed (λ x. (x.0, x.1.now)) result ≡ sample_in_text maxval left bytes.now }
     ensures small { IfOk result (λ x. x.0 ≤ maxval) }
 {
     let bytes = skip(bytes);
@@ -83,7 +83,7 @@ fn likely_sample(maxval: u16, bytes: &[u8]) -> Option<(u32, &[u8])>
 /// A sample, most often a short one.
 #[inline(always)]
 fn sample(maxval: u16, left: usize, bytes: &[u8]) -> Result<(u16, &[u8]), ReadFault>
-    ensures value { seen (λ x. (x.0, x.1.now)) result ≡ sample_at maxval left bytes.now }
+    ensures value { result_viewed (λ x. (x.0, x.1.now)) result ≡ sample_in_text maxval left bytes.now }
     ensures small { IfOk result (λ x. x.0 ≤ maxval) }
 {
     match likely_sample(maxval, bytes) {
@@ -103,7 +103,7 @@ pub enum Places {
 
 #[inline(always)]
 fn place(places: Places, left: usize, bytes: &[u8]) -> Result<(u16, &[u8]), ReadFault>
-    ensures value { seen (λ x. (x.0, x.1.now)) result ≡ place_at places left bytes.now }
+    ensures value { result_viewed (λ x. (x.0, x.1.now)) result ≡ place_in_text places left bytes.now }
     ensures small { IfOk result (λ x. x.0 ≤ top_of places) }
 {
     match places {
@@ -124,7 +124,7 @@ fn one(s: u16) -> u64
 /// own places.
 #[inline(always)]
 pub(crate) fn count_ones(places: Places, count: usize, bytes: &[u8]) -> Result<u64, ReadFault>
-    ensures { seen (λ n. n) result ≡ ones_of (plain_at (place_at places) count bytes.now) }
+    ensures { result_viewed (λ n. n) result ≡ ones_of (plain_at (place_in_text places) count bytes.now) }
 {
     let mut ones = 0;
     let mut left = count;
@@ -149,8 +149,8 @@ fn fill<P: Pixel>(
     bytes: &[u8],
 ) -> Result<Result<Vec<P>, ReadFault>, AllocError>
     requires fits { top_of places ≤ P.top_level }
-    requires long { fault_of (plain_at (place_at places) count bytes.now) ≢ Some Short }
-    ensures value { IfOk result (λ found. seen (λ v. map P.level v.items) found ≡ plain_at (place_at places) count bytes.now) }
+    requires long { fault_alone (plain_at (place_in_text places) count bytes.now) ≢ Some Short }
+    ensures value { IfOk result (λ found. result_viewed (λ v. map P.level v.items) found ≡ plain_at (place_in_text places) count bytes.now) }
     ensures few { IfOk result (λ found. IfOk found (λ v. vec_capacity v ≤ count)) }
 {
     let mut out = Vec::with_capacity(alloc, count)?;
@@ -176,7 +176,7 @@ fn fill<P: Pixel>(
 /// The first fault, without memory.
 #[inline(never)]
 pub(crate) fn check(places: Places, count: usize, bytes: &[u8]) -> Result<(), ReadFault>
-    ensures { fault_of result ≡ fault_of (plain_at (place_at places) count bytes.now) }
+    ensures { fault_alone result ≡ fault_alone (plain_at (place_in_text places) count bytes.now) }
 {
     let _ones = count_ones(places, count, bytes)?;
     Ok(())
@@ -193,7 +193,7 @@ pub fn samples<P: Pixel>(
     bytes: &[u8],
 ) -> Result<Vec<P>, ReadFault>
     requires { top_of places ≤ P.top_level }
-    ensures { Gives (λ v. map P.level v.items) result (plain_at (place_at places) count bytes.now) }
+    ensures { Gives (λ v. map P.level v.items) result (plain_at (place_in_text places) count bytes.now) }
 {
     if !has_room(places, count, bytes) {
         check(places, count, bytes)?;

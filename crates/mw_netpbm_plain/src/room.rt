@@ -5,9 +5,9 @@ ghost use Rattle.std.specs.Prelude.{◌≡◌, ◌≢◌, ◌+◌, ◌-◌, ◌�
 ghost use Rattle.std.specs.Simd.Lanes.{mask_l};
 ghost use Rattle.mw_model.specs.NetpbmGrammar.{is_white};
 ghost use Rattle.mw_netpbm_plain.specs.declared.fault.ReadFault.TheVariants.{Short};
-ghost use Rattle.mw_netpbm_plain.specs.Places.{place_at};
+ghost use Rattle.mw_netpbm_plain.specs.PlainSamples.{place_in_text};
 ghost use Rattle.mw_netpbm_plain.specs.Plain.{plain_at};
-ghost use Rattle.mw_netpbm_plain.specs.Reading.{fault_of};
+ghost use Rattle.mw_netpbm_plain.specs.Reading.{fault_alone};
 ghost use Rattle.mw_netpbm_plain.specs.Tallies.{signs_in, words_in, ends_white, has_hash, room_for};
 
 use crate::padding::padded;
@@ -118,7 +118,7 @@ fn holds(places: Places, count: usize, bytes: &[u8]) -> bool
 pub(crate) fn has_room(places: Places, count: usize, bytes: &[u8]) -> bool
     ensures exact { IsTrue result ↔ (has_hash bytes.now ≡ false) × (count ≤ room_for places bytes.now) }
     // Memory for a raster that is too short is not asked for: such a raster is checked first.
-    ensures long { IsTrue result → fault_of (plain_at (place_at places) count bytes.now) ≢ Some Short }
+    ensures long { IsTrue result → fault_alone (plain_at (place_in_text places) count bytes.now) ≢ Some Short }
 {
     holds(places, count, bytes)
 }

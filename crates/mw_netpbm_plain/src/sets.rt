@@ -2,8 +2,8 @@
 
 ghost use Rattle.std.specs.Prelude.{◌≡◌, ◌≢◌, ◌+◌, ◌*◌, ◌/◌, ◌<◌, ◌≤◌, ◌^◌, IfOk, OnOk, Some, vec_len, vec_capacity};
 ghost use Rattle.mw_netpbm_plain.specs.declared.fault.ReadFault.TheVariants.{Short};
-ghost use Rattle.mw_netpbm_plain.specs.Reading.{seen, Gives, fault_of};
-ghost use Rattle.mw_netpbm_plain.specs.Plain.{plain_at, pixel_at};
+ghost use Rattle.mw_netpbm_plain.specs.Reading.{result_viewed, Gives, fault_alone};
+ghost use Rattle.mw_netpbm_plain.specs.Plain.{plain_at, pixel_in_text};
 ghost use Rattle.mw_netpbm_plain.specs.SetWords.{word_at, row_at, words_from};
 ghost use Rattle.mw_netpbm_plain.specs.Whole.{raster_from};
 
@@ -17,7 +17,7 @@ use std::alloc::{AllocError, Global};
 #[inline(always)]
 fn word(count: usize, bytes: &[u8]) -> Result<(u64, &[u8]), ReadFault>
     requires { count ≤ 64 }
-    ensures { seen (λ x. (x.0, x.1.now)) result ≡ word_at count bytes.now }
+    ensures { result_viewed (λ x. (x.0, x.1.now)) result ≡ word_at count bytes.now }
 {
     let mut word = 0u64;
     let mut rest = bytes;
@@ -33,7 +33,7 @@ fn word(count: usize, bytes: &[u8]) -> Result<(u64, &[u8]), ReadFault>
 fn row<'a>(out: &mut Vec<u64>, width: usize, bytes: &'a [u8]) -> Result<&'a [u8], ReadFault>
     requires wide { width < 2 ^ 60 }
     requires room { vec_len out.old + (width + 63) / 64 ≤ vec_capacity out.old }
-    ensures value { seen (λ rest. (out.new.items, rest.now)) result ≡ row_at out.old.items width bytes.now }
+    ensures value { result_viewed (λ rest. (out.new.items, rest.now)) result ≡ row_at out.old.items width bytes.now }
     ensures len { OnOk result (vec_len out.new ≡ vec_len out.old + (width + 63) / 64) }
     ensures capacity { vec_capacity out.new ≡ vec_capacity out.old }
 {
@@ -58,8 +58,8 @@ fn rows(
 ) -> Result<Result<Vec<u64>, ReadFault>, AllocError>
     requires wide { width < 2 ^ 32 }
     requires high { height < 2 ^ 32 }
-    requires long { fault_of (plain_at pixel_at (height * width) bytes.now) ≢ Some Short }
-    ensures value { IfOk result (λ found. seen (λ v. v.items) found ≡ words_from width height (plain_at pixel_at (height * width) bytes.now)) }
+    requires long { fault_alone (plain_at pixel_in_text (height * width) bytes.now) ≢ Some Short }
+    ensures value { IfOk result (λ found. result_viewed (λ v. v.items) found ≡ words_from width height (plain_at pixel_in_text (height * width) bytes.now)) }
     ensures few { IfOk result (λ found. IfOk found (λ v. vec_capacity v ≤ height * ((width + 63) / 64))) }
 {
     let stride = (width + 63) / 64;
@@ -82,7 +82,7 @@ fn rows(
 #[tactic(auto, using(crate::proofs::Faults::Fails_fault, crate::proofs::Faults::Fails_from))]
 #[inline(never)]
 pub fn set(alloc: Global, width: u32, height: u32, bytes: &[u8]) -> Result<Words, ReadFault>
-    ensures { Gives (λ f. f) result (raster_from width height (plain_at pixel_at (height * width) bytes.now)) }
+    ensures { Gives (λ f. f) result (raster_from width height (plain_at pixel_in_text (height * width) bytes.now)) }
 {
     let count = height as usize * width as usize;
     if !has_room(Places::Pixels, count, bytes) {

@@ -1,7 +1,7 @@
 //! White space, comments and numbers, as headers and plain rasters have them.
 
 ghost use Rattle.std.specs.Prelude.{◌≡◌, ◌≤◌, ◌^◌, false, IfOk};
-ghost use Rattle.mw_netpbm_plain.specs.Reading.{skip_from, gap_at, number_at, field_at, seen};
+ghost use Rattle.mw_netpbm_plain.specs.Reading.{skip_from, gap_at, number_in_text, field_at, result_viewed};
 ghost use Rattle.mw_model.specs.NetpbmGrammar.{is_white, is_eol};
 
 use crate::fault::ReadFault;
@@ -42,9 +42,9 @@ pub(crate) fn skip(bytes: &[u8]) -> &[u8]
     rest
 }
 
-#[tactic(auto, unfolding(crate::specs::Reading::number_at, crate::specs::Reading::digits_from))]
+#[tactic(auto, unfolding(crate::specs::Reading::number_in_text, crate::specs::Reading::digits_from))]
 pub(crate) fn number(bytes: &[u8]) -> Result<(u64, &[u8]), ReadFault>
-    ensures value { seen (λ x. (x.0, x.1.now)) result ≡ number_at bytes.now }
+    ensures value { result_viewed (λ x. (x.0, x.1.now)) result ≡ number_in_text bytes.now }
     ensures small { IfOk result (λ x. x.0 ≤ 4294967296) }
 {
     match bytes {
@@ -62,7 +62,7 @@ pub(crate) fn number(bytes: &[u8]) -> Result<(u64, &[u8]), ReadFault>
 
 #[tactic(auto, unfolding(crate::specs::Reading::gap_at))]
 pub(crate) fn gap(bytes: &[u8]) -> Result<&[u8], ReadFault>
-    ensures { seen (λ x. x.now) result ≡ gap_at bytes.now }
+    ensures { result_viewed (λ x. x.now) result ≡ gap_at bytes.now }
 {
     match bytes {
         [b, after @ ..] if is_white(*b) => Ok(skip(after)),
@@ -72,7 +72,7 @@ pub(crate) fn gap(bytes: &[u8]) -> Result<&[u8], ReadFault>
 
 #[tactic(auto, unfolding(crate::specs::Reading::field_at))]
 pub(crate) fn field(bytes: &[u8]) -> Result<(u64, &[u8]), ReadFault>
-    ensures value { seen (λ x. (x.0, x.1.now)) result ≡ field_at bytes.now }
+    ensures value { result_viewed (λ x. (x.0, x.1.now)) result ≡ field_at bytes.now }
     ensures small { IfOk result (λ x. x.0 ≤ 4294967296) }
 {
     let rest = gap(bytes)?;

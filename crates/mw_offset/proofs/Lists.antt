@@ -4,11 +4,11 @@ use Rattle.std.specs.List.{AllByRecursion}
 use Rattle.mw_line.specs.Extrema.{strided}
 use Rattle.mw_element_runs.specs.declared.runs.Run.{Run}
 use Rattle.mw_element_runs.specs.declared.runs.Extent.{Extent}
-use Rattle.mw_element_runs.specs.Runs.{start_of, HasRoom, gather}
+use Rattle.mw_element_runs.specs.Runs.{start_of, RunHasRoom, gather}
 
 -- there is room for one row of so many samples
-pub list_room : (e : Extent) (wide count cells : ℕ) (runs : List Run) → AllByRecursion (HasRoom e wide (count + 63) cells) runs → AllByRecursion (HasRoom e wide ((1 - 1) * wide + count + 63) cells) runs
-list_room e wide count cells runs all = subst (λ (t : ℕ). AllByRecursion (HasRoom e wide t cells) runs) (same count wide) all
+pub list_room : (e : Extent) (wide count cells : ℕ) (runs : List Run) → AllByRecursion (RunHasRoom e wide (count + 63) cells) runs → AllByRecursion (RunHasRoom e wide ((1 - 1) * wide + count + 63) cells) runs
+list_room e wide count cells runs all = subst (λ (t : ℕ). AllByRecursion (RunHasRoom e wide t cells) runs) (same count wide) all
   where
     same : (count wide : ℕ) → count + 63 ≡ (1 - 1) * wide + count + 63
     same count wide = omega arith

@@ -12,8 +12,8 @@ use Rattle.mw_line.proofs.Folds.{IsExtremum}
 use Rattle.mw_element_runs.specs.declared.runs.Run.{Run}
 use Rattle.mw_element_runs.specs.declared.runs.Extent.{Extent}
 use Rattle.mw_offset.proofs.Rooms.{merged_again}
-use Rattle.mw_offset.specs.Places.{merge_from, places_of, sized_below}
-use Rattle.mw_element_runs.specs.Runs.{start_of, HasRoom, two_parts}
+use Rattle.mw_offset.specs.MergedAt.{merge_from, places_of, sized_below}
+use Rattle.mw_element_runs.specs.Runs.{start_of, RunHasRoom, two_parts}
 use borrow.Rule.Slice.PartMut.{put_mid}
 
 -- the samples below `at` have their values, and the others are as they were
@@ -123,7 +123,7 @@ places_are_parts f laws cells d e wide size next q best (r ∷ rs) =
     either false = refl
 
 -- at each place there is room for all samples
-pub all_places : (e : Extent) (wide size next n m : ℕ) (runs : List Run) → 0 < size → AllByRecursion (HasRoom e wide n m) runs → AllByRecursion (λ (p : ℕ). p + n ≤ m) (flat_map (places_of e wide size next) runs)
+pub all_places : (e : Extent) (wide size next n m : ℕ) (runs : List Run) → 0 < size → AllByRecursion (RunHasRoom e wide n m) runs → AllByRecursion (λ (p : ℕ). p + n ≤ m) (flat_map (places_of e wide size next) runs)
 all_places e wide size next n m [] some all = tt
 all_places e wide size next n m (r ∷ rs) some all =
     let fits = all.0.room in

@@ -7,9 +7,9 @@ use Rattle.std.proofs.lemmas.Int.{ints}
 use Rattle.std.proofs.lemmas.List.Elements.{filter_map-append}
 use Rattle.std.proofs.lemmas.List.Folds.{flat_map-map}
 use Rattle.mw_model.proofs.mw_facts.Alls.{all-weaker}
-use Rattle.mw_model.specs.declared.places.Offset.{Offset}
-use Rattle.mw_model.specs.declared.places.Rect.{Rect}
-use Rattle.mw_model.specs.Places.{nonnegative}
+use Rattle.mw_model.specs.declared.offsets.Offset.{Offset}
+use Rattle.mw_model.specs.declared.offsets.Rect.{Rect}
+use Rattle.mw_model.specs.Rectangles.{nonnegative}
 use Rattle.mw_model.specs.Rasters.{raster, cell_at, Sight, seen_under}
 use Rattle.mw_model.specs.Windows.{View, seen_at}
 use Rattle.mw_model.proofs.Nonnegative.{nonnegative_is}
@@ -19,7 +19,7 @@ use Rattle.mw_line.proofs.Folds.{IsExtremum, fold_both}
 use Rattle.mw_line.proofs.Over.{over_same, over_strided, over_out, merged_or, fold_flat, those, fold_those, filter_map-flat}
 use Rattle.mw_element_runs.specs.declared.runs.Run.{Run}
 use Rattle.mw_element_runs.specs.declared.runs.Extent.{Extent}
-use Rattle.mw_element_runs.specs.Runs.{run_offsets, start_of, IsInside, HasRoom, gather}
+use Rattle.mw_element_runs.specs.Runs.{run_offsets, start_of, RunIsInside, RunHasRoom, gather}
 use Rattle.mw_offset.proofs.Rooms.{one_less}
 
 -- The rows that the code lays out for a tile and an extent: each cell stands for what the window has there.
@@ -36,7 +36,7 @@ abbrev pub IsLaid : {A : Type 0} → (A → A → A) → A → View A → Rect �
 IsLaid f n w tile e wide high column row cells = IsLaidBy (merge_at f n) n w tile e wide high column row cells
 
 run_room : (tile_width tile_height wide high : ℕ) (e : Extent) → 0 < tile_height → wide ≡ tile_width + nonnegative (e.right -ℤ e.left) → high ≡ tile_height + nonnegative (e.bottom -ℤ e.top)
-    → (r : Run) → IsInside e r → start_of e wide r + (r.count - 1) + ((tile_height - 1) * wide + tile_width) ≤ high * wide
+    → (r : Run) → RunIsInside e r → start_of e wide r + (r.count - 1) + ((tile_height - 1) * wide + tile_width) ≤ high * wide
 run_room tile_width tile_height wide high e some wide-is high-is r inside =
     let dy = nonnegative (r.dy -ℤ e.top) in
     let dx = nonnegative (r.dx -ℤ e.left) in
@@ -51,14 +51,14 @@ run_room tile_width tile_height wide high e some wide-is high-is r inside =
     omega (arith, most, columns, one)
 
 pub all_room : (tile_width tile_height wide high count cells : ℕ) (e : Extent) (runs : List Run) → 0 < tile_height → wide ≡ tile_width + nonnegative (e.right -ℤ e.left) → high ≡ tile_height + nonnegative (e.bottom -ℤ e.top)
-    → count ≡ (tile_height - 1) * wide + tile_width → cells ≡ high * wide → AllByRecursion (IsInside e) runs → AllByRecursion (HasRoom e wide count cells) runs
+    → count ≡ (tile_height - 1) * wide + tile_width → cells ≡ high * wide → AllByRecursion (RunIsInside e) runs → AllByRecursion (RunHasRoom e wide count cells) runs
 all_room tile_width tile_height wide high count cells e runs some wide-is high-is count-is cells-is all =
-    all-weaker (IsInside e) (HasRoom e wide count cells) runs (λ r inside. record { inside = inside; room = rw (count-is, cells-is) (run_room tile_width tile_height wide high e some wide-is high-is r inside) }) all
+    all-weaker (RunIsInside e) (RunHasRoom e wide count cells) runs (λ r inside. record { inside = inside; room = rw (count-is, cells-is) (run_room tile_width tile_height wide high e some wide-is high-is r inside) }) all
 
 -- with as many cells more there is room for as many places more
-pub more_room : (e : Extent) (wide count cells more : ℕ) (runs : List Run) → AllByRecursion (HasRoom e wide count cells) runs → AllByRecursion (HasRoom e wide (count + more) (cells + more)) runs
+pub more_room : (e : Extent) (wide count cells more : ℕ) (runs : List Run) → AllByRecursion (RunHasRoom e wide count cells) runs → AllByRecursion (RunHasRoom e wide (count + more) (cells + more)) runs
 more_room e wide count cells more runs all =
-    all-weaker (HasRoom e wide count cells) (HasRoom e wide (count + more) (cells + more)) runs (λ r room. record { inside = room.inside; room = let fits = room.room in omega arith }) all
+    all-weaker (RunHasRoom e wide count cells) (RunHasRoom e wide (count + more) (cells + more)) runs (λ r room. record { inside = room.inside; room = let fits = room.room in omega arith }) all
 
 -- what a run sees, place by place
 seen_run : {A : Type 0} (f : A → A → A) → IsExtremum f → (n : A) (sight : Sight A) (r : Run) (x y : ℕ) → 0 < r.count
@@ -74,7 +74,7 @@ seen_run f laws n sight r x y some =
 
 -- the extremum of a run's samples, as the rows have them
 run_looked : {A : Type 0} (f : A → A → A) (look : Option A → A) (n : A) (w : View A) (tile : Rect) (e : Extent) (wide high : ℕ) (column row : ℤ) (cells : List A) → IsLaidBy look n w tile e wide high column row cells
-    → (r : Run) → IsInside e r → (x y : ℕ) → x < tile.width → y < tile.height
+    → (r : Run) → RunIsInside e r → (x y : ℕ) → x < tile.width → y < tile.height
     → strided f cells n 1 (r.count - 1) (start_of e wide r + (y * wide + x)) ≡ over f (λ i. look (seen_at w (pos (tile.x + x) +ℤ (r.dx +ℤ pos i)) (pos (tile.y + y) +ℤ r.dy))) 0 (r.count - 1)
 run_looked f look n w tile e wide high column row cells laid r inside x y less row_less =
     let dy = nonnegative (r.dy -ℤ e.top) in
@@ -99,14 +99,14 @@ run_looked f look n w tile e wide high column row cells laid r inside x y less r
 
 -- the value of a run, where each cell is merged with n
 run_value : {A : Type 0} (f : A → A → A) → IsExtremum f → (n : A) (w : View A) (tile : Rect) (e : Extent) (wide high : ℕ) (column row : ℤ) (cells : List A) → IsLaid f n w tile e wide high column row cells
-    → (x y : ℕ) → x < tile.width → y < tile.height → (r : Run) → IsInside e r
+    → (x y : ℕ) → x < tile.width → y < tile.height → (r : Run) → RunIsInside e r
     → strided f cells n 1 (r.count - 1) (start_of e wide r + (y * wide + x)) ≡ fold f n (seen_under (seen_at w) (run_offsets r) (tile.x + x) (tile.y + y))
 run_value f laws n w tile e wide high column row cells laid x y less row_less r inside =
     run_looked f (merge_at f n) n w tile e wide high column row cells laid r inside x y less row_less ∙ sym (seen_run f laws n (seen_at w) r (tile.x + x) (tile.y + y) inside.run.some)
 
 -- the value of a run, where each cell is a sample or n
 run_spread : {A : Type 0} (f : A → A → A) → IsExtremum f → (n : A) (w : View A) (tile : Rect) (e : Extent) (wide high : ℕ) (column row : ℤ) (cells : List A) → IsLaidBy (λ o. unwrap_or o n) n w tile e wide high column row cells
-    → (x y : ℕ) → x < tile.width → y < tile.height → (r : Run) → IsInside e r
+    → (x y : ℕ) → x < tile.width → y < tile.height → (r : Run) → RunIsInside e r
     → f n (strided f cells n 1 (r.count - 1) (start_of e wide r + (y * wide + x))) ≡ fold f n (seen_under (seen_at w) (run_offsets r) (tile.x + x) (tile.y + y))
 run_spread f laws n w tile e wide high column row cells laid x y less row_less r inside =
     let sight = λ (i : ℕ). seen_at w (pos (tile.x + x) +ℤ (r.dx +ℤ pos i)) (pos (tile.y + y) +ℤ r.dy) in
@@ -117,8 +117,8 @@ run_spread f laws n w tile e wide high column row cells laid x y less row_less r
 
 -- what all runs see, if each sees its part
 gather_seen_by : {A : Type 0} (f : A → A → A) → IsExtremum f → (n : A) (sight : Sight A) (e : Extent) (x y : ℕ) (value : Run → A)
-    → ((r : Run) → IsInside e r → value r ≡ fold f n (seen_under sight (run_offsets r) x y))
-    → (runs : List Run) → AllByRecursion (IsInside e) runs → gather f n value runs ≡ fold f n (seen_under sight (flat_map run_offsets runs) x y)
+    → ((r : Run) → RunIsInside e r → value r ≡ fold f n (seen_under sight (run_offsets r) x y))
+    → (runs : List Run) → AllByRecursion (RunIsInside e) runs → gather f n value runs ≡ fold f n (seen_under sight (flat_map run_offsets runs) x y)
 gather_seen_by f laws n sight e x y value is [] all = refl
 gather_seen_by f laws n sight e x y value is (r ∷ rs) all =
     let look = λ (b : Offset). sight (pos x +ℤ b.dx) (pos y +ℤ b.dy) in
@@ -148,14 +148,14 @@ gather_merged f laws n value (r ∷ rs) =
 
 -- what all runs see, where each cell is merged with n
 pub gather_seen : {A : Type 0} (f : A → A → A) → IsExtremum f → (n : A) (w : View A) (tile : Rect) (e : Extent) (wide high : ℕ) (column row : ℤ) (cells : List A) → IsLaid f n w tile e wide high column row cells
-    → (runs : List Run) → AllByRecursion (IsInside e) runs → (x y : ℕ) → x < tile.width → y < tile.height
+    → (runs : List Run) → AllByRecursion (RunIsInside e) runs → (x y : ℕ) → x < tile.width → y < tile.height
     → gather f n (λ r. strided f cells n 1 (r.count - 1) (start_of e wide r + (y * wide + x))) runs ≡ fold f n (seen_under (seen_at w) (flat_map run_offsets runs) (tile.x + x) (tile.y + y))
 gather_seen f laws n w tile e wide high column row cells laid runs all x y less row_less =
     gather_seen_by f laws n (seen_at w) e (tile.x + x) (tile.y + y) (λ r. strided f cells n 1 (r.count - 1) (start_of e wide r + (y * wide + x))) (run_value f laws n w tile e wide high column row cells laid x y less row_less) runs all
 
 -- what all runs see, where each cell is a sample or n
 pub gather_spread : {A : Type 0} (f : A → A → A) → IsExtremum f → (n : A) (w : View A) (tile : Rect) (e : Extent) (wide high : ℕ) (column row : ℤ) (cells : List A) → IsLaidBy (λ o. unwrap_or o n) n w tile e wide high column row cells
-    → (runs : List Run) → AllByRecursion (IsInside e) runs → (x y : ℕ) → x < tile.width → y < tile.height
+    → (runs : List Run) → AllByRecursion (RunIsInside e) runs → (x y : ℕ) → x < tile.width → y < tile.height
     → gather f n (λ r. strided f cells n 1 (r.count - 1) (start_of e wide r + (y * wide + x))) runs ≡ fold f n (seen_under (seen_at w) (flat_map run_offsets runs) (tile.x + x) (tile.y + y))
 gather_spread f laws n w tile e wide high column row cells laid runs all x y less row_less =
     let value = λ (r : Run). strided f cells n 1 (r.count - 1) (start_of e wide r + (y * wide + x)) in

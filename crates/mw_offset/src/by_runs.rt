@@ -7,16 +7,16 @@ ghost use Rattle.std.specs.Prelude.{◌≡◌, ℕ, ◌+◌, ◌-◌, ◌*◌, �
 ghost use Rattle.std.specs.Vec.{vec_capacity};
 ghost use Rattle.mw_element_runs.specs.declared.runs.Extent.{Extent};
 ghost use Rattle.std.specs.List.{AllByRecursion};
-ghost use Rattle.mw_model.specs.Places.{nonnegative};
+ghost use Rattle.mw_model.specs.Rectangles.{nonnegative};
 ghost use Rattle.mw_model.specs.Rasters.{seen_under};
 ghost use Rattle.mw_model.specs.Windows.{seen_at};
 ghost use Rattle.mw_line.specs.Extrema.{strided};
 ghost use Rattle.mw_element_runs.specs.declared.runs.Run.{Run};
-ghost use Rattle.mw_offset.specs.Places.{places_of, sized_below, IsStrip};
-ghost use Rattle.mw_element_runs.specs.Runs.{run_offsets, start_of, IsInside, HasRoom, two_parts, gather};
+ghost use Rattle.mw_offset.specs.MergedAt.{places_of, sized_below, IsMergedAtOnce};
+ghost use Rattle.mw_element_runs.specs.Runs.{run_offsets, start_of, RunIsInside, RunHasRoom, two_parts, gather};
 
+use crate::merging::combine_rows_at;
 use crate::narrow::{is_cheaper_as_list, pick_columns};
-use crate::places::combine_rows_at;
 use crate::sizes::{longest_of, next_size};
 use mw_element_runs::{
     Extent, Run, Sizes, columns_after, counts_of, first_column, first_row, rows_after, start_of_run,
@@ -52,7 +52,7 @@ fn push_places(
     wide: usize,
     sizes: Sizes,
 ) -> Result<(), NoMemory>
-    requires inside { IsInside extent run }
+    requires inside { RunIsInside extent run }
     requires fits { start_of extent wide run + run.count < 2 ^ 64 }
     ensures { OnOk result (places.new.items ≡ places.old.items ++ places_of extent wide sizes.least sizes.next run) }
 {
@@ -99,7 +99,7 @@ fn places_of_sizes(
     wide: usize,
     sizes: Sizes,
 ) -> Result<Vec<usize>, NoMemory>
-    requires room { (count : ℕ) × (cells : ℕ) × (0 < count) × (cells < 2 ^ 64) × AllByRecursion (HasRoom extent wide count cells) runs.now }
+    requires room { (count : ℕ) × (cells : ℕ) × (0 < count) × (cells < 2 ^ 64) × AllByRecursion (RunHasRoom extent wide count cells) runs.now }
     ensures { IfOk result (λ v. v.items ≡ flat_map (places_of extent wide sizes.least sizes.next) runs.now) }
 {
     let mut places = room_for_parts(alloc, runs, sizes)?;
@@ -118,7 +118,7 @@ fn combine_sized<P: Pixel, E: Extremum<P>>(
     cells: &[P],
     out: &mut [P],
 ) -> Result<(), NoMemory>
-    requires room { AllByRecursion (HasRoom laid.extent laid.wide ((laid.height - 1) * laid.wide + laid.width + 63) (length cells.now)) runs.now }
+    requires room { AllByRecursion (RunHasRoom laid.extent laid.wide ((laid.height - 1) * laid.wide + laid.width + 63) (length cells.now)) runs.now }
     requires size { length out.old ≡ laid.height * laid.width }
     requires cells { (laid.height - 1) * laid.wide + laid.width + 63 ≤ length cells.now }
     requires some { 0 < sizes.least }
@@ -148,7 +148,7 @@ fn combine_runs<P: Pixel, E: Extremum<P>>(
     cells: &mut [P],
     out: &mut [P],
 ) -> Result<(), NoMemory>
-    requires room { AllByRecursion (HasRoom laid.extent laid.wide ((laid.height - 1) * laid.wide + laid.width + 63) (length cells.old)) runs.now }
+    requires room { AllByRecursion (RunHasRoom laid.extent laid.wide ((laid.height - 1) * laid.wide + laid.width + 63) (length cells.old)) runs.now }
     requires size { length out.old ≡ laid.height * laid.width }
     requires wanted { 0 < length out.old }
     requires cells { (laid.height - 1) * laid.wide + laid.width + 63 ≤ length cells.old }
@@ -178,7 +178,7 @@ fn merge_laid<P: Pixel, E: Extremum<P>>(
     cells: &mut [P],
     out: &mut [P],
 ) -> Result<(), NoMemory>
-    requires room { AllByRecursion (HasRoom laid.extent laid.wide ((laid.height - 1) * laid.wide + laid.width + 63) (length cells.old)) runs.now }
+    requires room { AllByRecursion (RunHasRoom laid.extent laid.wide ((laid.height - 1) * laid.wide + laid.width + 63) (length cells.old)) runs.now }
     requires size { length out.old ≡ laid.height * laid.width }
     requires wanted { 0 < length out.old }
     requires cells { (laid.height - 1) * laid.wide + laid.width + 63 ≤ length cells.old }
@@ -218,12 +218,12 @@ pub(crate) fn merge_runs<P: Grey, E: Extremum<P>>(
     neutral: P,
     out: &mut [P],
 ) -> Result<(), NoMemory>
-    requires inside { AllByRecursion (IsInside looked.extent) runs.now }
+    requires inside { AllByRecursion (RunIsInside looked.extent) runs.now }
     requires some { (0 < looked.tile.width) × (0 < looked.tile.height) }
     requires wide { looked.extent.left ≤ℤ looked.extent.right }
     requires high { looked.extent.top ≤ℤ looked.extent.bottom }
     requires low { looked.tile.height ≤ 2 ^ 17 }
-    requires strip { IsStrip looked.extent looked.tile.width looked.tile.height }
+    requires strip { IsMergedAtOnce looked.extent looked.tile.width looked.tile.height }
     requires few_rows { nonnegative (looked.extent.bottom -ℤ looked.extent.top) ≤ 1023 }
     requires size { length out.old ≡ looked.tile.height * looked.tile.width }
     requires blank { (q : ℕ) → slice_index_or out.old q neutral ≡ neutral }

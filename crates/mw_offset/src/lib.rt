@@ -7,9 +7,9 @@
 #![tactic(auto)]
 
 mod by_runs;
+mod merging;
 mod narrow;
 mod offsets;
-mod places;
 mod sizes;
 mod strips;
 

@@ -4,7 +4,7 @@
 ghost use Rattle.std.specs.Prelude.{◌≡◌, ℕ, ◌+◌, ◌*◌, ◌<◌, ◌≤◌, pos, negsuc, ◌+ℤ◌, ◌-ℤ◌, ◌≤ℤ◌, length, slice_index_or, fold, vec_len, All, IfOk, IsTrue};
 ghost use Rattle.std.specs.List.{AllByRecursion};
 ghost use Rattle.mw_model.specs.declared.limits.TheConstants.{FAR_LIMIT};
-ghost use Rattle.mw_model.specs.Places.{nonnegative};
+ghost use Rattle.mw_model.specs.Rectangles.{nonnegative};
 ghost use Rattle.mw_model.specs.Rasters.{Raster, cell_at, seen_under};
 ghost use Rattle.mw_model.specs.Windows.{seen_at};
 ghost use Rattle.mw_line.specs.mw_tile.Windows.{IsWindow};
@@ -159,7 +159,7 @@ pub fn extremum_of_runs<P: Grey, E: Extremum<P>>(
     Ok(Plane::new(tile.width, tile.height, samples))
 }
 
-/// The same where the offsets have to be cut into runs first.
+/// What `extremum_of_runs` makes, where the offsets have to be cut into runs first.
 pub fn extremum<P: Grey, E: Extremum<P>>(
     alloc: Global,
     window: &Window<P>,

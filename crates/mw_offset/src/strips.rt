@@ -2,11 +2,11 @@
 //! cache from their spreading to their last merge.
 ghost use Rattle.std.specs.Prelude.{◌≡◌, ℕ, ◌+◌, ◌*◌, ◌<◌, ◌≤◌, ◌^◌, ◌-ℤ◌, ◌≤ℤ◌, length, slice_index_or, fold, flat_map, vec_len, IfOk, OnOk};
 ghost use Rattle.std.specs.List.{AllByRecursion};
-ghost use Rattle.mw_model.specs.Places.{nonnegative};
+ghost use Rattle.mw_model.specs.Rectangles.{nonnegative};
 ghost use Rattle.mw_model.specs.Rasters.{seen_under};
 ghost use Rattle.mw_model.specs.Windows.{seen_at};
-ghost use Rattle.mw_element_runs.specs.Runs.{run_offsets, IsInside};
-ghost use Rattle.mw_offset.specs.Places.{IsStrip};
+ghost use Rattle.mw_element_runs.specs.Runs.{run_offsets, RunIsInside};
+ghost use Rattle.mw_offset.specs.MergedAt.{IsMergedAtOnce};
 
 use crate::by_runs::{Looked, merge_runs};
 use mw_element_runs::{Extent, Run, rows_after};
@@ -26,7 +26,7 @@ fn rows_of_strip(width: u32, extent: Extent) -> usize
     requires few_rows { nonnegative (extent.bottom -ℤ extent.top) ≤ 1023 }
     ensures some { 0 < result }
     ensures few { result ≤ 2 ^ 17 }
-    ensures strip { IsStrip extent width result }
+    ensures strip { IsMergedAtOnce extent width result }
 {
     let in_cache = (SAMPLES / width) as usize;
     in_cache.max(32).max(rows_after(extent))
@@ -41,7 +41,7 @@ fn merge_strips<P: Grey, E: Extremum<P>>(
     neutral: P,
     out: &mut [P],
 ) -> Result<(), NoMemory>
-    requires inside { AllByRecursion (IsInside looked.extent) runs.now }
+    requires inside { AllByRecursion (RunIsInside looked.extent) runs.now }
     requires some { (0 < looked.tile.width) × (looked.tile.y + looked.tile.height < 2 ^ 32) }
     requires wide { looked.extent.left ≤ℤ looked.extent.right }
     requires high { looked.extent.top ≤ℤ looked.extent.bottom }
@@ -88,7 +88,7 @@ pub(crate) fn extremum_by_strips<P: Grey, E: Extremum<P>>(
     neutral: P,
     tile: Rect,
 ) -> Result<Vec<P>, NoMemory>
-    requires inside { AllByRecursion (IsInside extent) runs.now }
+    requires inside { AllByRecursion (RunIsInside extent) runs.now }
     requires some { (0 < tile.width) × (tile.y + tile.height < 2 ^ 32) }
     requires wide { extent.left ≤ℤ extent.right }
     requires high { extent.top ≤ℤ extent.bottom }

@@ -109,7 +109,7 @@ impl Image {
         }
     }
 
-    /// The same image, as one more owner of its plane. No sample is copied.
+    /// This image once more, as one more owner of its plane. No sample is copied.
     pub fn share(&self) -> Result<Image, NoMemory>
         ensures { IfOk result (λ i. i ≡ self.now) }
     {

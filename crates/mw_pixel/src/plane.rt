@@ -180,11 +180,4 @@ impl Plane<Bit> {
         let _width = self.held.width();
         &self.held
     }
-
-    /// The words of a set.
-    pub fn into_words(self) -> Words
-        ensures { result ≡ self }
-    {
-        self.held
-    }
 }

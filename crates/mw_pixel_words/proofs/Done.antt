@@ -92,7 +92,7 @@ bit_rows_more value w h y m old out made lt m-is len made-is before =
       rest = λ k from. put_mid_above (y * w) m out made k 0 here (sym same) (omega arith) ∙ before.rest k (omega arith);
     }
 
--- the same where the code has the words of a row in s
+-- one more row of bits, where the code has the words of a row in s
 pub bit_rows_more_by : (value : ℕ → ℕ → ℕ → ℕ) (w h y s m : ℕ) (old out made : List ℕ) → s ≡ w → y < h → m ≡ s → length made ≡ s
     → ((x : ℕ) → x < 64 * s → bit_of made x ≡ value (bit_of (take m (drop (y * s) out)) x) x y)
     → BitRowsDone value w h y old out → BitRowsDone value w h (y + 1) old (put_mid (y * s) m out made)

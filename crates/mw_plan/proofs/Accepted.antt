@@ -25,9 +25,9 @@ use Rattle.mw_plan.specs.declared.faults.PlanFault.{PlanFault}
 use Rattle.mw_plan.specs.declared.inputs.Input.{Input}
 use Rattle.mw_plan.specs.declared.inputs.Input.TheVariants as input
 use Rattle.mw_plan.specs.Asked.{fault_in, offsets_of_input}
-use Rattle.mw_plan.specs.Faults.{code_of}
+use Rattle.mw_plan.specs.Faults.{plan_code}
 use Rattle.mw_plan.specs.PlansOf.{AreValuesOf, IsValueOf, inputs_taken}
-use Rattle.mw_plan.specs.Tables.{AreEntries, AreInputsOf, AreValuesAt, HasShape, IsEntry, IsInputAt, IsInputOf, figure_of, name_wanted}
+use Rattle.mw_plan.specs.Tables.{AreEntries, AreInputsOf, AreValuesAt, HasShape, IsEntry, IsInputAt, IsInputOf, figure_in, name_wanted}
 use Rattle.mw_plan.proofs.Refused.{run_refused}
 
 -- ---- one input
@@ -71,7 +71,7 @@ shape_kept w kept values t v are lt is =
     cc
 
 -- an element is kept where an element stands that is neither dead nor released
-element_there : (v : Option Value) (s : Shape) → ((x : Value) → v ≡ Some x → shape_of_value x ≡ s) → is_element s ≡ true → IsSome v → figure_of v ≡ None → ⊥
+element_there : (v : Option Value) (s : Shape) → ((x : Value) → v ≡ Some x → shape_of_value x ≡ s) → is_element s ≡ true → IsSome v → figure_in v ≡ None → ⊥
 element_there None s told element some none = absurd cc
 element_there (Some (ImageValue f)) s told element some none = let e = ap is_element (told (ImageValue f) refl) in absurd cc
 element_there (Some (ElementValue b)) s told element some none = absurd cc
@@ -85,7 +85,7 @@ no_offsets (Some (ElementValue b)) s told element = let e = ap is_element (told 
 no_offsets (Some (CurveValue ns)) s told element = refl
 
 -- the element that is kept
-figure_is : (v : Option Value) (b : Figure) → figure_of v ≡ Some b → v ≡ Some (ElementValue b)
+figure_is : (v : Option Value) (b : Figure) → figure_in v ≡ Some b → v ≡ Some (ElementValue b)
 figure_is None b is = absurd cc
 figure_is (Some (ImageValue f)) b is = absurd cc
 figure_is (Some (ElementValue d)) b is = cc
@@ -249,7 +249,7 @@ accepted_faultless w kept values n o a b c none are at =
     let ok = accepted w kept n o none in
     no_code (fault_in o a b c) (sym (run_refused w kept n o a b c ok.free ok.room (accepted_entries w kept values n o a b c none are at)) ∙ none)
   where
-    no_code : (found : Option PlanFault) → option_map code_of found ≡ None → found ≡ None
+    no_code : (found : Option PlanFault) → option_map plan_code found ≡ None → found ≡ None
     no_code None none = refl
     no_code (Some f) none = absurd cc
 

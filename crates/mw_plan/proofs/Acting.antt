@@ -1,9 +1,9 @@
 -- What the steps of flat operators do.
 use Rattle.std.proofs.Common.{◌≡◌, ℕ, List, cond, nat_le, refl, ap, subst, sym, ◌∙◌}
 use Rattle.mw_model.specs.declared.shapes.Kind.TheVariants as kind
-use Rattle.mw_model.specs.declared.places.Offset.{Offset}
-use Rattle.mw_model.specs.declared.places.OffsetBox.{OffsetBox}
-use Rattle.mw_model.specs.Places.{box_offsets}
+use Rattle.mw_model.specs.declared.offsets.Offset.{Offset}
+use Rattle.mw_model.specs.declared.offsets.OffsetBox.{OffsetBox}
+use Rattle.mw_model.specs.Rectangles.{box_offsets}
 use Rattle.mw_model.specs.PlanSteps as step
 use Rattle.mw_model.specs.PlanSteps.{PlanStep}
 use Rattle.mw_model.specs.Flat.{reflected, rank, threshold}
@@ -36,7 +36,7 @@ acts_by_rank e k = record { plain = refl; made = λ f. record { count = refl; ki
 pub acts_by_level : (k : ℕ) → ActsAs (step.AtLeast k) (threshold k)
 acts_by_level k = record { plain = refl; made = λ f. record { count = refl; kinds = tt }; plane = λ f. plane_of_one kind.Bit 1 (λ n. cond (nat_le k n) 1 0) f }
 
--- the same of steps that mean these, by equal lists of offsets
+-- what steps do that mean these, by equal lists of offsets
 pub slides_by_offsets : (x : ExtremumKind) (s : PlanStep) (d e : List Offset) → s ≡ by_offsets x d → d ≡ e → ActsAs s (sliding x e)
 slides_by_offsets x s d e is same = subst (λ (t : PlanStep). ActsAs t (sliding x e)) (sym (is ∙ ap (by_offsets x) same)) (acts_by_offsets x e)
 

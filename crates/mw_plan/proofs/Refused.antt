@@ -1,11 +1,12 @@
 -- The faults of an operation are the refusals of the machine.
 use Rattle.std.proofs.Common.{◌≡◌, ℕ, ◌+◌, Bool, true, false, List, [], ◌∷◌, ◌++◌, length, map, Option, Some, None, refl, ap, sym, ◌∙◌}
 use Rattle.std.specs.Prelude.{not, ◌&&◌, nat_le, option_map}
+use Rattle.mw_model.specs.declared.limits.TheConstants.{LEVEL_LIMIT, SIZE_LIMIT, TURN_LIMIT}
 use Rattle.mw_model.specs.declared.names.Name.{Name}
 use Rattle.mw_model.specs.declared.codes.Code.{Code}
 use Rattle.mw_model.specs.declared.codes.Code.TheVariants as code
 use Rattle.mw_model.specs.declared.calls.Call.TheVariants as call
-use Rattle.mw_model.specs.declared.places.Offset.{Offset}
+use Rattle.mw_model.specs.declared.offsets.Offset.{Offset}
 use Rattle.mw_model.specs.declared.shapes.Shape.{Shape}
 use Rattle.mw_model.specs.declared.shapes.Shape.TheVariants as shape
 use Rattle.mw_model.specs.declared.operations.Op.{Op}
@@ -20,7 +21,7 @@ use Rattle.mw_plan.specs.declared.faults.PlanFault.{PlanFault}
 use Rattle.mw_plan.specs.declared.faults.PlanFault.TheVariants as fault
 use Rattle.mw_plan.specs.declared.inputs.Input.{Input}
 use Rattle.mw_plan.specs.declared.inputs.Input.TheVariants as input
-use Rattle.mw_plan.specs.Faults.{code_of}
+use Rattle.mw_plan.specs.Faults.{plan_code}
 use Rattle.mw_plan.specs.Asked.{is_image_input, is_element_input, image_shape, offsets_of_input, unless, first_fault, kind_fault, kind_faults, op_faults, fault_in, shape_made}
 use Rattle.mw_plan.specs.Tables.{HasShape, IsEntry, AreEntries, name_wanted}
 use Rattle.mw_model_laws.proofs.RunTables.{ticket_is}
@@ -28,7 +29,7 @@ use Rattle.mw_plan.proofs.Fitting.{none_first}
 
 -- a fault as a refusal, if there is one
 abbrev code_if : Option PlanFault → Option Code
-code_if found = option_map code_of found
+code_if found = option_map plan_code found
 
 -- lists of cases that are the same as refusals
 abbrev AreCases : List (Option Code) → List (Option PlanFault) → Type 0
@@ -61,11 +62,11 @@ first_append (None ∷ cs) ds = first_append cs ds
 first_append (Some c ∷ cs) ds = refl
 
 -- what is asked and does not hold
-case_same : (t u : Bool) (f : PlanFault) (c : Code) → code_of f ≡ c → u ≡ t → when (not u) c ≡ code_if (unless t f)
+case_same : (t u : Bool) (f : PlanFault) (c : Code) → plan_code f ≡ c → u ≡ t → when (not u) c ≡ code_if (unless t f)
 case_same true u f c is same = rw same refl
 case_same false u f c is same = rw same (ap (λ (d : Code). Some d) (sym is))
 
-case_not : (t : Bool) (f : PlanFault) (c : Code) → code_of f ≡ c → when t c ≡ code_if (unless (not t) f)
+case_not : (t : Bool) (f : PlanFault) (c : Code) → plan_code f ≡ c → when t c ≡ code_if (unless (not t) f)
 case_not true f c is = ap (λ (d : Code). Some d) (sym is)
 case_not false f c is = refl
 
@@ -92,7 +93,7 @@ binary_told input.Curve s tells = ap is_binary tells.1
 binary_told input.Absent s tells = absurd tells
 
 -- an entry is refused for its kind alone
-entry_case : (w : Table) (values : List (Option Value)) (n : Name) (i : Input) (fits : Shape → Bool) (t : Bool) (f : PlanFault) → code_of f ≡ code.Kind → (e : IsEntry w values n i)
+entry_case : (w : Table) (values : List (Option Value)) (n : Name) (i : Input) (fits : Shape → Bool) (t : Bool) (f : PlanFault) → plan_code f ≡ code.Kind → (e : IsEntry w values n i)
     → fits (shape_at w.submissions e.number) ≡ t → input_case w fits n ≡ code_if (unless t f)
 entry_case w values n i fits t f is e same =
     rw e.known (ap (λ (c : Option Code). first_of (c ∷ when (is_dead (outcome_at w.outcomes e.number)) code.Dead ∷ when (is_released (outcome_at w.outcomes e.number)) code.Released ∷ [])) (case_same t (fits (shape_at w.submissions e.number)) f code.Kind is same)
@@ -143,13 +144,13 @@ cases_of w values (op.Flat (flat.BlackTopHat f e)) a b c are = tt
 cases_of w values (op.Flat (flat.Rank f e k)) a b c are =
     let d = are.1.0.offsets in
     (origin_same (offsets_of_input b) (offsets_at w values e) d, (count_same (offsets_of_input b) (offsets_at w values e) k d, tt))
-cases_of w values (op.Flat (flat.Threshold f k)) a b c are = (number_same 0 65535 k, tt)
+cases_of w values (op.Flat (flat.Threshold f k)) a b c are = (number_same 0 LEVEL_LIMIT k, tt)
 cases_of w values (op.Flat (flat.HitMiss f hit miss)) a b c are =
     (overlap_same (offsets_of_input b) (offsets_of_input c) (offsets_at w values hit) (offsets_at w values miss) are.1.0.offsets are.1.1.0.offsets, tt)
 cases_of w values (op.Gran (gran.Skeleton f e levels)) a b c are =
-    (binary_same w values f a are.0, (origin_same (offsets_of_input b) (offsets_at w values e) are.1.0.offsets, (number_same 1 254 levels, tt)))
-cases_of w values (op.Gran (gran.Restore f e levels)) a b c are = (number_same 1 254 levels, tt)
-cases_of w values (op.Gran (gran.Spectrum f e levels)) a b c are = (number_same 1 32 levels, tt)
+    (binary_same w values f a are.0, (origin_same (offsets_of_input b) (offsets_at w values e) are.1.0.offsets, (number_same 1 TURN_LIMIT levels, tt)))
+cases_of w values (op.Gran (gran.Restore f e levels)) a b c are = (number_same 1 TURN_LIMIT levels, tt)
+cases_of w values (op.Gran (gran.Spectrum f e levels)) a b c are = (number_same 1 SIZE_LIMIT levels, tt)
 
 pub run_refused : (w : Table) (values : List (Option Value)) (n : Name) (o : Op) (a b c : Input) → name_taken w n ≡ None → no_room w ≡ None → AreEntries w values (inputs_wanted o) (a ∷ b ∷ c ∷ [])
     → refusal w values (call.Run n o) ≡ code_if (fault_in o a b c)

@@ -1,14 +1,14 @@
 -- What an operation asks of its inputs, the first thing that is wrong with them, and the shape of its result (own).
 use Rattle.std.specs.Prelude.{ℕ, ◌+◌, ◌&&◌, Bool, true, false, nat_le, not, List, [], ◌∷◌, ◌++◌, length, Option, Some, None, Result, Ok, Err, ◌≡◌}
 use Rattle.std.specs.Arc.{arc_value}
-use Rattle.mw_model.specs.declared.places.Offset.{Offset}
+use Rattle.mw_model.specs.declared.offsets.Offset.{Offset}
 use Rattle.mw_model.specs.declared.shapes.Shape.{Shape}
 use Rattle.mw_model.specs.declared.shapes.Shape.TheVariants as shape
 use Rattle.mw_model.specs.declared.operations.Op.{Op}
 use Rattle.mw_model.specs.declared.operations.Op.TheVariants as op
 use Rattle.mw_model.specs.declared.operations.FlatOp.TheVariants as flat
 use Rattle.mw_model.specs.declared.operations.GranOp.TheVariants as gran
-use Rattle.mw_model.specs.declared.limits.TheConstants.{LEVEL_LIMIT}
+use Rattle.mw_model.specs.declared.limits.TheConstants.{LEVEL_LIMIT, SIZE_LIMIT, TURN_LIMIT}
 use Rattle.mw_model.specs.Elements.{holds_origin, overlaps}
 use Rattle.mw_model.specs.Refusals.{Wanted, AnImage, AnElement, inputs_wanted, is_image, is_binary}
 use Rattle.mw_model.specs.Machine.{as_bits, as_grey}
@@ -57,7 +57,7 @@ abbrev pub kind_fault : ℕ → Wanted → Input → Option PlanFault
 kind_fault place (AnImage n) i = unless (is_image_input i) (fault.Kind place)
 kind_fault place (AnElement n) i = unless (is_element_input i) (fault.Kind place)
 
--- the same of all inputs from this place on, in argument order; what is not wanted is not looked at
+-- what is wrong with the kinds of all inputs from this place on, in argument order; what is not wanted is not looked at
 abbrev pub kind_faults : ℕ → List Wanted → List Input → List (Option PlanFault)
 kind_faults place [] inputs = []
 kind_faults place (w ∷ ws) [] = []
@@ -80,9 +80,9 @@ abbrev pub op_faults : Op → Input → Input → Input → List (Option PlanFau
 op_faults (op.Flat (flat.Rank f e k)) a b c = origin_fault b ∷ number_fault 1 (length (offsets_of_input b)) k ∷ []
 op_faults (op.Flat (flat.Threshold f k)) a b c = number_fault 0 LEVEL_LIMIT k ∷ []
 op_faults (op.Flat (flat.HitMiss f hit miss)) a b c = unless (not (overlaps (offsets_of_input b) (offsets_of_input c))) fault.Overlap ∷ []
-op_faults (op.Gran (gran.Skeleton f e levels)) a b c = binary_fault a ∷ origin_fault b ∷ number_fault 1 254 levels ∷ []
-op_faults (op.Gran (gran.Restore f e levels)) a b c = number_fault 1 254 levels ∷ []
-op_faults (op.Gran (gran.Spectrum f e levels)) a b c = number_fault 1 32 levels ∷ []
+op_faults (op.Gran (gran.Skeleton f e levels)) a b c = binary_fault a ∷ origin_fault b ∷ number_fault 1 TURN_LIMIT levels ∷ []
+op_faults (op.Gran (gran.Restore f e levels)) a b c = number_fault 1 TURN_LIMIT levels ∷ []
+op_faults (op.Gran (gran.Spectrum f e levels)) a b c = number_fault 1 SIZE_LIMIT levels ∷ []
 op_faults o a b c = []
 
 -- the first fault of an operation on these inputs, if there is one

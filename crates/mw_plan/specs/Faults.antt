@@ -5,10 +5,10 @@ use Rattle.mw_plan.specs.declared.faults.PlanFault.{PlanFault}
 use Rattle.mw_plan.specs.declared.faults.PlanFault.TheVariants as fault
 
 -- the refusal that a fault stands for
-abbrev pub code_of : PlanFault → Code
-code_of (fault.Kind place) = code.Kind
-code_of fault.Binary = code.Binary
-code_of fault.NoOrigin = code.NoOrigin
-code_of fault.Overlap = code.Overlap
-code_of fault.Param = code.Param
-code_of fault.NoMemory = code.Memory
+abbrev pub plan_code : PlanFault → Code
+plan_code (fault.Kind place) = code.Kind
+plan_code fault.Binary = code.Binary
+plan_code fault.NoOrigin = code.NoOrigin
+plan_code fault.Overlap = code.Overlap
+plan_code fault.Param = code.Param
+plan_code fault.NoMemory = code.Memory

@@ -4,7 +4,7 @@ use Rattle.std.specs.List.{AllByRecursion}
 use Rattle.std.specs.Arc.{arc_value}
 use Rattle.mw_model.specs.declared.shapes.Kind.TheVariants as kind
 use Rattle.mw_model.specs.declared.operations.Op.{Op}
-use Rattle.mw_model.specs.declared.limits.TheConstants.{LEVEL_LIMIT}
+use Rattle.mw_model.specs.declared.limits.TheConstants.{LEVEL_LIMIT, STEP_LIMIT}
 use Rattle.mw_model.specs.Pictures.{Picture, IsImage}
 use Rattle.mw_model.specs.Values.{Value, ImageValue, ElementValue, CurveValue, shape_of_picture, result_of}
 use Rattle.mw_model.specs.Refusals.{inputs_wanted, is_image}
@@ -26,7 +26,7 @@ IsValueOf (input.Element e) v = v ≡ Some (ElementValue (arc_value e.now))
 IsValueOf input.Curve v = (numbers : List ℕ) × (v ≡ Some (CurveValue numbers))
 IsValueOf input.Absent v = v ≡ None
 
--- the same of all, place by place
+-- each value may come to stand in the place of its input
 abbrev pub AreValuesOf : List Input → List (Option Value) → Type 0
 AreValuesOf [] [] = Unit {0}
 AreValuesOf [] (v ∷ vs) = ⊥
@@ -86,10 +86,10 @@ abbrev pub IsPlaneSource : Plan → Source → Type 0
 IsPlaneSource plan (FromStep k) = is_sum (slice_index_or plan k nothing_planned).step ≡ false
 IsPlaneSource plan s = Unit {0}
 
--- The plan has from 1 to 896 steps and reads one image. Each source is that image or an earlier step that makes a plane, an image is what the last step makes, and whatever images come to stand in the inputs, each step can be made of what it reads, and the planes of the plan mean the operation.
+-- The plan has from 1 to STEP_LIMIT steps and reads one image. Each source is that image or an earlier step that makes a plane, an image is what the last step makes, and whatever images come to stand in the inputs, each step can be made of what it reads, and the planes of the plan mean the operation.
 pub record IsPlanOf (o : Op) (a b c : Input) (plan : Plan) : Type 0 where
   pub some : 1 ≤ length plan
-  pub few : length plan ≤ 896
+  pub few : length plan ≤ STEP_LIMIT
   pub one : images_taken o a b c ≡ 1
   pub sources : (k : ℕ) → AllByRecursion (IsSourceAt (images_taken o a b c) k) (slice_index_or plan k nothing_planned).sources
   pub planes : (k : ℕ) → AllByRecursion (IsPlaneSource plan) (slice_index_or plan k nothing_planned).sources

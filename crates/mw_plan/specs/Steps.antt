@@ -1,10 +1,11 @@
 -- Plans of one image, and what the steps of flat operators do (own).
 use Rattle.std.specs.Prelude.{ℕ, ◌≡◌, true, false, ◌<◌, ◌≤◌, ◌-◌, List, [], ◌∷◌, length, negsuc, pos, neg_ℤ, ◌≤ℤ◌, slice_index_or}
 use Rattle.std.specs.List.{AllByRecursion}
+use Rattle.mw_model.specs.declared.limits.TheConstants.{STEP_LIMIT}
 use Rattle.mw_model.specs.declared.operations.FlatOp.{FlatOp}
 use Rattle.mw_model.specs.declared.operations.FlatOp.TheVariants as flat
-use Rattle.mw_model.specs.declared.places.Offset.{Offset}
-use Rattle.mw_model.specs.declared.places.OffsetBox.{OffsetBox}
+use Rattle.mw_model.specs.declared.offsets.Offset.{Offset}
+use Rattle.mw_model.specs.declared.offsets.OffsetBox.{OffsetBox}
 use Rattle.mw_model.specs.Pictures.{Picture}
 use Rattle.mw_model.specs.Flat.{erosion, dilation, reflected, opening, closing, white_top_hat, black_top_hat, gradient, rank, threshold, hit_or_miss}
 use Rattle.mw_model.specs.PlanSteps.{PlanStep, Minus}
@@ -103,7 +104,7 @@ last_plane plan f =
 -- the plan of so many steps, none of them a Sum, reads one image and makes this operator of it
 pub record Makes (count : ℕ) (operator : Picture → Picture) (plan : Plan) : Type 0 where
   pub some : 1 ≤ count
-  pub few : count ≤ 896
+  pub few : count ≤ STEP_LIMIT
   pub steps : length plan ≡ count
   pub sources : (k : ℕ) → AllByRecursion (IsSourceAt 1 k) (slice_index_or plan k nothing_planned).sources
   pub plain : (k : ℕ) → is_sum (slice_index_or plan k nothing_planned).step ≡ false

@@ -43,18 +43,18 @@ AreEntries w values (x ∷ xs) (i ∷ is) = IsEntry w values (name_wanted x) i �
 -- ---- by tickets
 
 -- the element in the place of a value, if one stands there
-abbrev pub figure_of : Option Value → Option Figure
-figure_of (Some (ElementValue b)) = Some b
-figure_of v = None
+abbrev pub figure_in : Option Value → Option Figure
+figure_in (Some (ElementValue b)) = Some b
+figure_in v = None
 
 -- the input tells what the table and the values that are kept tell of this ticket: the shape of an image, the element that is kept, that there is a curve, or that no element is kept
 abbrev pub IsInputAt : Table → List (Option Value) → ℕ → Input → Type 0
 IsInputAt w kept t (input.Image s) = (shape_at w.submissions t ≡ s) × (is_image s ≡ true)
-IsInputAt w kept t (input.Element e) = figure_of (value_at kept t) ≡ Some (arc_value e.now)
+IsInputAt w kept t (input.Element e) = figure_in (value_at kept t) ≡ Some (arc_value e.now)
 IsInputAt w kept t input.Curve = (n : ℕ) × (shape_at w.submissions t ≡ shape.Curve n)
-IsInputAt w kept t input.Absent = (is_element (shape_at w.submissions t) ≡ true) × (figure_of (value_at kept t) ≡ None)
+IsInputAt w kept t input.Absent = (is_element (shape_at w.submissions t) ≡ true) × (figure_in (value_at kept t) ≡ None)
 
--- the same where there is a ticket; elsewhere any input may stand
+-- the input tells what is known of the ticket, where there is one; elsewhere any input may stand
 abbrev pub IsInputOf : Table → List (Option Value) → Option ℕ → Input → Type 0
 IsInputOf w kept (Some t) i = IsInputAt w kept t i
 IsInputOf w kept None i = Unit {0}

@@ -1,7 +1,7 @@
 //! Why there is no plan.
 
 ghost use Rattle.std.specs.Prelude.{◌≡◌};
-ghost use Rattle.mw_plan.specs.Faults.{code_of};
+ghost use Rattle.mw_plan.specs.Faults.{plan_code};
 
 use mw_model::{Code, NoMemory};
 
@@ -24,7 +24,7 @@ pub enum PlanFault {
 impl PlanFault {
     /// The refusal that this is.
     pub fn code(self) -> Code
-        ensures { result ≡ code_of self }
+        ensures { result ≡ plan_code self }
     {
         match self {
             PlanFault::Kind(_) => Code::Kind,

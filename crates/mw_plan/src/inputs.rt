@@ -5,7 +5,7 @@ ghost use Rattle.std.specs.Arc.{arc_value};
 ghost use Rattle.mw_model.specs.Refusals.{Table, shape_at};
 ghost use Rattle.mw_model.specs.Values.{Value, value_at};
 ghost use Rattle.mw_plan.specs.Asked.{is_element_input, offsets_of_input};
-ghost use Rattle.mw_plan.specs.Tables.{IsInputAt, figure_of};
+ghost use Rattle.mw_plan.specs.Tables.{IsInputAt, figure_in};
 
 use mw_model::Shape;
 use mw_step_task::element::Element;
@@ -25,7 +25,7 @@ pub enum Input<'a> {
 impl<'a> Input<'a> {
     /// The input of an entry of this shape, of which this element is kept, if one is.
     pub fn of(shape: Shape, element: Option<&'a Arc<Element>>) -> Input<'a>
-        ensures { (w : Table) (kept : List (Option Value)) (t : ℕ) → shape_at w.submissions t ≡ shape → figure_of (value_at kept t) ≡ option_map (λ b. arc_value b.now) element.entry → IsInputAt w kept t result }
+        ensures { (w : Table) (kept : List (Option Value)) (t : ℕ) → shape_at w.submissions t ≡ shape → figure_in (value_at kept t) ≡ option_map (λ b. arc_value b.now) element.entry → IsInputAt w kept t result }
     {
         match shape {
             Shape::Image(_, _, _, _) => Input::Image(shape),

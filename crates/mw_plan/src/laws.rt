@@ -6,7 +6,7 @@ ghost use Rattle.mw_model.specs.declared.calls.Call.{Call};
 ghost use Rattle.mw_model.specs.declared.calls.Call.TheVariants as call;
 ghost use Rattle.mw_model.specs.declared.names.Name.{Name};
 ghost use Rattle.mw_model.specs.declared.operations.Op.{Op};
-ghost use Rattle.mw_model.specs.declared.places.Rect.{Rect};
+ghost use Rattle.mw_model.specs.declared.offsets.Rect.{Rect};
 ghost use Rattle.mw_model.specs.declared.limits.TheConstants.{SIDE_LIMIT};
 ghost use Rattle.mw_model.specs.Machine.{Machine, inputs_from, shape_of_result, values};
 ghost use Rattle.mw_model.specs.Pictures.{Picture};
@@ -22,7 +22,7 @@ ghost use Rattle.mw_step_task.specs.WindowTasks.{FitsStep};
 ghost use Rattle.mw_step_task.specs.mw_tile.Windows.{SourceWindow};
 ghost use Rattle.mw_plan.specs.declared.inputs.Input.{Input};
 ghost use Rattle.mw_plan.specs.Asked.{fault_in, shape_made};
-ghost use Rattle.mw_plan.specs.Faults.{code_of};
+ghost use Rattle.mw_plan.specs.Faults.{plan_code};
 ghost use Rattle.mw_plan.specs.PlansOf.{AreValuesOf, CanBeMade, inputs_taken, planes_read};
 ghost use Rattle.mw_plan.specs.Tables.{AreEntries, AreInputsOf, AreValuesAt};
 
@@ -40,7 +40,7 @@ pub fn tasks_of_plans_fit()
 /// Where the inputs are entries that are neither dead nor released, the machine refuses a RUN by the first fault, and the
 /// shape that it tells of an accepted one is the one made.
 pub fn faults_are_refusals()
-    ensures refusal { (w : Table) (values : List (Option Value)) (n : Name) (o : Op) (a b c : Input) → name_taken w n ≡ None → no_room w ≡ None → AreEntries w values (inputs_wanted o) (a ∷ b ∷ c ∷ []) → refusal w values (call.Run n o) ≡ option_map code_of (fault_in o a b c) }
+    ensures refusal { (w : Table) (values : List (Option Value)) (n : Name) (o : Op) (a b c : Input) → name_taken w n ≡ None → no_room w ≡ None → AreEntries w values (inputs_wanted o) (a ∷ b ∷ c ∷ []) → refusal w values (call.Run n o) ≡ option_map plan_code (fault_in o a b c) }
     ensures shape { (w : Table) (values : List (Option Value)) (o : Op) (a b c : Input) → AreEntries w values (inputs_wanted o) (a ∷ b ∷ c ∷ []) → fault_in o a b c ≡ None → shape_of_result w o ≡ shape_made o a }
 {}
 

@@ -24,8 +24,8 @@ pub enum Sources {
 }
 
 impl Sources {
-    ghost use Rattle.std.specs.Prelude.{◌≡◌, ◌<◌, length, slice_index_or, IfSome, IsSome, ◌↔◌};
-    ghost use Rattle.mw_plan.specs.Seen.{source, sources};
+    ghost use Rattle.std.specs.Prelude.{◌≡◌, length};
+    ghost use Rattle.mw_plan.specs.Seen.{sources};
 
     /// How many there are.
     pub fn len(self) -> usize
@@ -36,22 +36,6 @@ impl Sources {
             Sources::One(_) => 1,
             Sources::Two(_, _) => 2,
             Sources::Three(_, _, _) => 3,
-        }
-    }
-
-    /// The source in this place, if there is one.
-    pub fn get(self, place: usize) -> Option<Source>
-        ensures some { IsSome result ↔ (place < length (sources self)) }
-        ensures value { IfSome result (λ s. source s ≡ slice_index_or (sources self) place (source s)) }
-    {
-        match (self, place) {
-            (Sources::One(a), 0) => Some(a),
-            (Sources::Two(a, _), 0) => Some(a),
-            (Sources::Two(_, b), 1) => Some(b),
-            (Sources::Three(a, _, _), 0) => Some(a),
-            (Sources::Three(_, b, _), 1) => Some(b),
-            (Sources::Three(_, _, c), 2) => Some(c),
-            _ => None,
         }
     }
 }

@@ -10,7 +10,7 @@ ghost use Rattle.mw_plan.specs.declared.inputs.Input.{Input};
 ghost use Rattle.mw_plan.specs.Asked.{binary_fault, fault_in, first_fault, image_shape, is_element_input, is_image_input, number_fault, offsets_of_input, origin_fault, shape_made, unless};
 
 use crate::{Input, PlanFault};
-use mw_model::{FlatOp, GranOp, Kind, LEVEL_LIMIT, Op, Shape};
+use mw_model::{FlatOp, GranOp, LEVEL_LIMIT, Op, SIZE_LIMIT, Shape, TURN_LIMIT};
 use mw_step_task::element::Element;
 use std::sync::Arc;
 
@@ -60,9 +60,10 @@ fn number(first: usize, last: usize, k: u32) -> Result<(), PlanFault>
 fn binary(shape: Shape) -> Result<(), PlanFault>
     ensures { result_err result ≡ unless (is_binary shape) PlanFault.Binary }
 {
-    match shape {
-        Shape::Image(Kind::Bit, _, _, _) => Ok(()),
-        _ => Err(PlanFault::Binary),
+    if shape.is_binary() {
+        Ok(())
+    } else {
+        Err(PlanFault::Binary)
     }
 }
 
@@ -73,26 +74,6 @@ fn origin(element: &Element) -> Result<(), PlanFault>
         Ok(())
     } else {
         Err(PlanFault::NoOrigin)
-    }
-}
-
-/// A set with the sides of the image.
-fn as_bits(shape: Shape) -> Shape
-    ensures { result ≡ as_bits shape }
-{
-    match shape {
-        Shape::Image(_, width, height, _) => Shape::Image(Kind::Bit, width, height, 1),
-        other => other,
-    }
-}
-
-/// A grey image of this maxval with the sides of the image.
-fn as_grey(maxval: u16, shape: Shape) -> Shape
-    ensures { result ≡ as_grey maxval shape }
-{
-    match shape {
-        Shape::Image(_, width, height, _) => Shape::Image(Kind::Grey, width, height, maxval),
-        other => other,
     }
 }
 
@@ -112,7 +93,7 @@ fn of_threshold(a: Input<'_>, k: u32) -> Result<Shape, PlanFault>
 {
     let shape = image(0, a)?;
     number(0, LEVEL_LIMIT as usize, k)?;
-    Ok(as_bits(shape))
+    Ok(shape.as_bits())
 }
 
 fn of_hit_miss(a: Input<'_>, b: Input<'_>, c: Input<'_>) -> Result<Shape, PlanFault>
@@ -149,31 +130,31 @@ fn of_flat(op: &FlatOp, a: Input<'_>, b: Input<'_>, c: Input<'_>) -> Result<Shap
 }
 
 fn of_skeleton(a: Input<'_>, b: Input<'_>, levels: u32) -> Result<Shape, PlanFault>
-    ensures fault { result_err result ≡ first_fault (unless (is_image_input a.entry) (PlanFault.Kind 0) ∷ unless (is_element_input b.entry) (PlanFault.Kind 1) ∷ binary_fault a.entry ∷ origin_fault b.entry ∷ number_fault 1 254 levels ∷ []) }
+    ensures fault { result_err result ≡ first_fault (unless (is_image_input a.entry) (PlanFault.Kind 0) ∷ unless (is_element_input b.entry) (PlanFault.Kind 1) ∷ binary_fault a.entry ∷ origin_fault b.entry ∷ number_fault 1 TURN_LIMIT levels ∷ []) }
     ensures shape { IfOk result (λ s. s ≡ as_grey (levels + 1) (image_shape a.entry)) }
 {
     let (shape, element) = pair(a, b)?;
     binary(shape)?;
     origin(element)?;
-    number(1, 254, levels)?;
-    Ok(as_grey(levels as u16 + 1, shape))
+    number(1, TURN_LIMIT as usize, levels)?;
+    Ok(shape.as_grey(levels as u16 + 1))
 }
 
 fn of_restore(a: Input<'_>, b: Input<'_>, levels: u32) -> Result<Shape, PlanFault>
-    ensures fault { result_err result ≡ first_fault (unless (is_image_input a.entry) (PlanFault.Kind 0) ∷ unless (is_element_input b.entry) (PlanFault.Kind 1) ∷ number_fault 1 254 levels ∷ []) }
+    ensures fault { result_err result ≡ first_fault (unless (is_image_input a.entry) (PlanFault.Kind 0) ∷ unless (is_element_input b.entry) (PlanFault.Kind 1) ∷ number_fault 1 TURN_LIMIT levels ∷ []) }
     ensures shape { IfOk result (λ s. s ≡ as_bits (image_shape a.entry)) }
 {
     let (shape, _element) = pair(a, b)?;
-    number(1, 254, levels)?;
-    Ok(as_bits(shape))
+    number(1, TURN_LIMIT as usize, levels)?;
+    Ok(shape.as_bits())
 }
 
 fn of_spectrum(a: Input<'_>, b: Input<'_>, levels: u32) -> Result<Shape, PlanFault>
-    ensures fault { result_err result ≡ first_fault (unless (is_image_input a.entry) (PlanFault.Kind 0) ∷ unless (is_element_input b.entry) (PlanFault.Kind 1) ∷ number_fault 1 32 levels ∷ []) }
+    ensures fault { result_err result ≡ first_fault (unless (is_image_input a.entry) (PlanFault.Kind 0) ∷ unless (is_element_input b.entry) (PlanFault.Kind 1) ∷ number_fault 1 SIZE_LIMIT levels ∷ []) }
     ensures shape { IfOk result (λ s. s ≡ Shape.Curve (levels + 1)) }
 {
     let (_shape, _element) = pair(a, b)?;
-    number(1, 32, levels)?;
+    number(1, SIZE_LIMIT as usize, levels)?;
     Ok(Shape::Curve(levels + 1))
 }
 

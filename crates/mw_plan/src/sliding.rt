@@ -3,7 +3,7 @@
 ghost use Rattle.std.specs.Prelude.{◌≡◌, ◌≤ℤ◌, pos, negsuc, neg_ℤ, true, IfOk, IfSome};
 ghost use Rattle.std.specs.Arc.{arc_value};
 ghost use Rattle.mw_step_task.specs.mw_element.Figures.{FillsBox};
-ghost use Rattle.mw_model.specs.declared.places.OffsetBox.{OffsetBox};
+ghost use Rattle.mw_model.specs.declared.offsets.OffsetBox.{OffsetBox};
 ghost use Rattle.mw_model.specs.Flat.{reflected, rank};
 ghost use Rattle.mw_step_task.specs.Meanings.{meaning};
 ghost use Rattle.mw_plan.specs.Asked.{is_element_input, offsets_of_input};

@@ -29,7 +29,7 @@ use Rattle.mw_core.specs.declared.answers.Finish.{Finish}
 use Rattle.mw_core.specs.declared.answers.Finish.TheVariants as finish
 use Rattle.mw_core.specs.declared.answers.Refusal.{Refusal}
 use Rattle.mw_core.specs.declared.answers.Refusal.TheVariants as refusal
-use Rattle.mw_core.specs.TaskAnswers.{Starts, Finishes, IsOwn, Refuses}
+use Rattle.mw_core.specs.TaskAnswers.{Starts, AnswersFinish, IsOwn, AnswersRefusal}
 use Rattle.mw_core.specs.mw_core_laws.Events.{FollowsMachine, WorkStays}
 use Rattle.mw_core.specs.mw_core_laws.TaskEvents.{BeginsTask, Kills, Places}
 use Rattle.mw_core.specs.mw_core_laws.Works.{true_task}
@@ -183,7 +183,7 @@ pub handed-started : (old new : CoreView) (a : Started) (slip : Option (List Win
     → ((m : Machine) → StandsFor old m → Starts old m a new) → AreHanded new written
 handed-started old new a slip roll written is h starts = ∥∥₁_map h (λ w. started-written old new a slip roll written is w (starts w.0 w.1))
 
-finished-on : (old new : CoreView) (d : WindowTask) (a : Finish) (roll : List WindowTask) → (w : Standing old roll) → Finishes old w.0 d a new → Standing new roll
+finished-on : (old new : CoreView) (d : WindowTask) (a : Finish) (roll : List WindowTask) → (w : Standing old roll) → AnswersFinish old w.0 d a new → Standing new roll
 finished-on old new d finish.Placed roll w e = (w.0, e.stands, on old new w.0 w.0 roll (places old new w.0 d w.1 e) w.2)
 finished-on old new d (finish.Settled t) roll w e =
     let n = with_table w.0 (settled w.0.table t outcome.Done) in
@@ -191,15 +191,15 @@ finished-on old new d (finish.Settled t) roll w e =
 finished-on old new d finish.Late roll w e = unchanged old new roll e.1 w
 finished-on old new d finish.Stranger roll w e = unchanged old new roll e.2 w
 
-pub handed-finished : (old new : CoreView) (d : WindowTask) (a : Finish) (roll : List WindowTask) → AreHanded old roll → ((m : Machine) → StandsFor old m → Finishes old m d a new) → AreHanded new roll
+pub handed-finished : (old new : CoreView) (d : WindowTask) (a : Finish) (roll : List WindowTask) → AreHanded old roll → ((m : Machine) → StandsFor old m → AnswersFinish old m d a new) → AreHanded new roll
 handed-finished old new d a roll h finishes = ∥∥₁_map h (λ w. finished-on old new d a roll w (finishes w.0 w.1))
 
-refused-on : (old new : CoreView) (k : TaskId) (a : Refusal) (roll : List WindowTask) → (w : Standing old roll) → Refuses old w.0 k a new → Standing new roll
+refused-on : (old new : CoreView) (k : TaskId) (a : Refusal) (roll : List WindowTask) → (w : Standing old roll) → AnswersRefusal old w.0 k a new → Standing new roll
 refused-on old new k (refusal.Killed t) roll w e = kills old new t roll w e.2
 refused-on old new k refusal.Late roll w e = unchanged old new roll e.1 w
 refused-on old new k refusal.Stranger roll w e = unchanged old new roll e.2 w
 
-pub handed-refused : (old new : CoreView) (k : TaskId) (a : Refusal) (roll : List WindowTask) → AreHanded old roll → ((m : Machine) → StandsFor old m → Refuses old m k a new) → AreHanded new roll
+pub handed-refused : (old new : CoreView) (k : TaskId) (a : Refusal) (roll : List WindowTask) → AreHanded old roll → ((m : Machine) → StandsFor old m → AnswersRefusal old m k a new) → AreHanded new roll
 handed-refused old new k a roll h refuses = ∥∥₁_map h (λ w. refused-on old new k a roll w (refuses w.0 w.1))
 
 -- ---- a task of the roll is the core's own, for each state that the core stands for

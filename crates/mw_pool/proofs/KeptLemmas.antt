@@ -26,7 +26,7 @@ use Rattle.mw_core.specs.declared.answers.Refusal.{Refusal}
 use Rattle.mw_core.specs.declared.answers.Refusal.TheVariants as refusal
 use Rattle.mw_core.specs.mw_core_laws.Events.{FollowsMachine}
 use Rattle.mw_core.proofs.mw_core_laws.ShownLemmas.{IsPlain, answer-not_shown, refused_or-not_shown}
-use Rattle.mw_core.specs.TaskAnswers.{Starts, Finishes, Refuses}
+use Rattle.mw_core.specs.TaskAnswers.{Starts, AnswersFinish, AnswersRefusal}
 use Rattle.mw_core.specs.mw_store.Fetches.{ShowsSome}
 use Rattle.mw_pool.specs.Tickets.{IsAwaited}
 
@@ -48,21 +48,21 @@ started-state old new m started.Idle s h = let P : CoreView → Type 0 = λ c. S
 pub stands-started : (old new : CoreView) (a : Started) → Stands old → ((m : Machine) → StandsFor old m → Starts old m a new) → Stands new
 stands-started old new a s h = ∥∥₁_map s (λ w. started-state old new w.0 a w.1 (h w.0 w.1))
 
-finished-state : (old new : CoreView) (m : Machine) (d : WindowTask) (a : Finish) → StandsFor old m → Finishes old m d a new → (n : Machine) × StandsFor new n
+finished-state : (old new : CoreView) (m : Machine) (d : WindowTask) (a : Finish) → StandsFor old m → AnswersFinish old m d a new → (n : Machine) × StandsFor new n
 finished-state old new m d finish.Placed s h = (m, h.stands)
 finished-state old new m d (finish.Settled t) s h = (_, h.stands)
 finished-state old new m d finish.Late s h = let P : CoreView → Type 0 = λ c. StandsFor c m in (m, subst P (sym h.1) s)
 finished-state old new m d finish.Stranger s h = let P : CoreView → Type 0 = λ c. StandsFor c m in (m, subst P (sym h.2) s)
 
-pub stands-finished : (old new : CoreView) (d : WindowTask) (a : Finish) → Stands old → ((m : Machine) → StandsFor old m → Finishes old m d a new) → Stands new
+pub stands-finished : (old new : CoreView) (d : WindowTask) (a : Finish) → Stands old → ((m : Machine) → StandsFor old m → AnswersFinish old m d a new) → Stands new
 stands-finished old new d a s h = ∥∥₁_map s (λ w. finished-state old new w.0 d a w.1 (h w.0 w.1))
 
-refused-state : (old new : CoreView) (m : Machine) (k : TaskId) (a : Refusal) → StandsFor old m → Refuses old m k a new → (n : Machine) × StandsFor new n
+refused-state : (old new : CoreView) (m : Machine) (k : TaskId) (a : Refusal) → StandsFor old m → AnswersRefusal old m k a new → (n : Machine) × StandsFor new n
 refused-state old new m k (refusal.Killed t) s h = (_, h.2.stands)
 refused-state old new m k refusal.Late s h = let P : CoreView → Type 0 = λ c. StandsFor c m in (m, subst P (sym h.1) s)
 refused-state old new m k refusal.Stranger s h = let P : CoreView → Type 0 = λ c. StandsFor c m in (m, subst P (sym h.2) s)
 
-pub stands-refused : (old new : CoreView) (k : TaskId) (a : Refusal) → Stands old → ((m : Machine) → StandsFor old m → Refuses old m k a new) → Stands new
+pub stands-refused : (old new : CoreView) (k : TaskId) (a : Refusal) → Stands old → ((m : Machine) → StandsFor old m → AnswersRefusal old m k a new) → Stands new
 stands-refused old new k a s h = ∥∥₁_map s (λ w. refused-state old new w.0 k a w.1 (h w.0 w.1))
 
 -- ---- what is handed out

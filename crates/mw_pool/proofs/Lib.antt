@@ -5,3 +5,4 @@ mod Adding
 mod Handing
 mod KeptLemmas
 mod NameLemmas
+mod Telling

@@ -15,7 +15,7 @@ IsHanded c m d =
     (d.task.ticket < length c.table.names)
     × ((p : Progress) (k : ℕ) → progress_at c.work d.task.ticket ≡ Some p → (true_task m d.task.ticket p k).task ≡ d.task → d ≡ true_task m d.task.ticket p k)
 
--- the same of all that stand in the roll, for one state that the core stands for
+-- so of all tasks that stand in the roll, for one state that the core stands for
 abbrev pub AreHanded : CoreView → List WindowTask → Type 0
 AreHanded c roll = ∥ ((m : Machine) × StandsFor c m × AllByRecursion (IsHanded c m) roll) ∥₁
 

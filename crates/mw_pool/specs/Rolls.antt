@@ -6,12 +6,12 @@ use Rattle.mw_core.specs.declared.answers.Started.{Started}
 use Rattle.mw_core.specs.declared.answers.Started.TheVariants as started
 
 -- the first word of the book is the length of the roll. A book has two words, of which this one leaves the second at 0
-abbrev pub IsKept : List Cell → List WindowTask → Type 0
-IsKept cells roll = cells ≡ (length roll, true) ∷ (0, true) ∷ []
+abbrev pub IsBookOf : List Cell → List WindowTask → Type 0
+IsBookOf cells roll = cells ≡ (length roll, true) ∷ (0, true) ∷ []
 
 -- that word
-abbrev pub head_of : Book → Named
-head_of b = record { tracked = true; key = 0; book = b }
+abbrev pub book_head : Book → Named
+book_head b = record { tracked = true; key = 0; book = b }
 
 -- the task was added to all that had been seen; or the roll was longer
 abbrev pub Adds : Step WindowTask → View WindowTask ℕ → ℕ → View WindowTask ℕ → Type 0

@@ -8,7 +8,7 @@ ghost use Rattle.mw_model.specs.Receipts.{Rises, count_at};
 ghost use Rattle.mw_pool.specs.Blocks.{IsTally, IsOnceAt};
 
 use crate::pass::Pass;
-use crate::places::{BLOCK, tally};
+use crate::stretches::{BLOCK, tally};
 use mw_core::Core;
 use mw_model::LogItem;
 

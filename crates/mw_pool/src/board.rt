@@ -4,13 +4,13 @@ ghost use Rattle.std.specs.Prelude.{◌≡◌, ◌↔◌, [], true, IfOk, IfSome
 
 use crate::kept::{Exchange, LockedState};
 use crate::pass::Pass;
-use crate::payloads::{read_element, read_image};
 use crate::roll::{Front, Naming, NewRoll};
 use crate::signals::{Signals, Sleepers};
 use crossbeam_utils::Backoff;
 use mw_core::task::{TaskRefused, TileDone, Work};
 use mw_core::{Core, Fetched, Started};
 use mw_model::{Name, NoMemory, Op, Reply};
+use mw_session_laws::{read_element, read_image};
 use std::alloc::Global;
 use std::sync::{Condvar, Mutex, MutexGuard, Wait};
 

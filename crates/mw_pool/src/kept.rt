@@ -51,7 +51,7 @@ impl<J: Naming> LockedState<J> {
     ghost use Rattle.mw_core.specs.mw_core_laws.Payloads.{given_image, image_payload, given_element, element_payload};
     ghost use Rattle.mw_core.specs.mw_core_laws.Events.{FollowsMachine};
     ghost use Rattle.mw_core.specs.mw_step_task.WindowTasks.{IsBounded};
-    ghost use Rattle.mw_core.specs.TaskAnswers.{Starts, StartsBounded, Finishes, Refuses};
+    ghost use Rattle.mw_core.specs.TaskAnswers.{Starts, StartsBounded, AnswersFinish, AnswersRefusal};
     ghost use Rattle.mw_core.specs.mw_store.Fetches.{ShowsSome, shown_value};
     ghost use Rattle.mw_pool.specs.Passes.{with_receipt};
     ghost use Rattle.mw_pool.specs.Rolls.{EndsWith, IsSlipOf, StandsIn};
@@ -202,7 +202,7 @@ impl<J: Naming> LockedState<J> {
         (started, slip)
     }
 
-    /// The same on an open board. Of a closed one none is taken.
+    /// Takes a ready task, as `start` does, if the board is open. Of a closed one none is taken.
     pub fn next(&mut self) -> Option<(Started, Option<Front<J>>)>
         ensures open_still { IsSome result ↔ (self.old.closed ≡ false) }
         ensures task { Follows self.old.core result self.new.core }
@@ -220,7 +220,7 @@ impl<J: Naming> LockedState<J> {
     fn finish_own(&mut self, done: TileDone) -> Finish
         requires bounded { AllByRecursion IsBounded done.windows }
         requires handed { StandsIn self.old.roll done }
-        ensures task { (m : Machine) → StandsFor self.old.core m → Finishes self.old.core m done result self.new.core }
+        ensures task { (m : Machine) → StandsFor self.old.core m → AnswersFinish self.old.core m done result self.new.core }
         ensures rest { (self.new.closed ≡ self.old.closed) × (self.new.asleep ≡ self.old.asleep) }
     {
         self.core.finish_own(done)
@@ -228,7 +228,7 @@ impl<J: Naming> LockedState<J> {
 
     /// A result of any task, which is compared with what the core has.
     fn finish_compared(&mut self, done: TileDone) -> Finish
-        ensures task { (m : Machine) → StandsFor self.old.core m → Finishes self.old.core m done result self.new.core }
+        ensures task { (m : Machine) → StandsFor self.old.core m → AnswersFinish self.old.core m done result self.new.core }
         ensures rest { (self.new.closed ≡ self.old.closed) × (self.new.asleep ≡ self.old.asleep) }
     {
         self.core.finish(done)
@@ -238,7 +238,7 @@ impl<J: Naming> LockedState<J> {
     fn finish(&mut self, done: TileDone, slip: &Option<Front<J>>) -> Finish
         requires bounded { AllByRecursion IsBounded done.windows }
         requires slip { IfSome slip.now (λ seen. EndsWith seen done) }
-        ensures task { (m : Machine) → StandsFor self.old.core m → Finishes self.old.core m done result self.new.core }
+        ensures task { (m : Machine) → StandsFor self.old.core m → AnswersFinish self.old.core m done result self.new.core }
         ensures rest { (self.new.closed ≡ self.old.closed) × (self.new.asleep ≡ self.old.asleep) }
     {
         if self.roll.has(slip, &done) {
@@ -248,12 +248,12 @@ impl<J: Naming> LockedState<J> {
         }
     }
 
-    /// The same, and then a ready task is taken for this worker, if the board is open. What is ready still is for those that sleep.
+    /// A worker brings a result, as to `finish`, and then a ready task is taken for this worker, if the board is open. What is ready still is for those that sleep.
     pub fn exchange(&mut self, done: TileDone, slip: &Option<Front<J>>) -> Exchange<J>
         requires bounded { AllByRecursion IsBounded done.windows }
         requires slip { IfSome slip.now (λ seen. EndsWith seen done) }
         ensures open_still { IsSome result.next ↔ (self.old.closed ≡ false) }
-        ensures task { (m : Machine) → StandsFor self.old.core m → (between : CoreView) × Finishes self.old.core m done result.answer between × Follows between result.next self.new.core }
+        ensures task { (m : Machine) → StandsFor self.old.core m → (between : CoreView) × AnswersFinish self.old.core m done result.answer between × Follows between result.next self.new.core }
         ensures bounded { IfSome result.next (λ r. StartsBounded r.0) }
         ensures slip { IfSome result.next (λ r. IsSlipOf r.0 r.1) }
         ensures wanted { result.wanted ≡ min self.new.asleep (ready_count self.new.core) }
@@ -270,7 +270,7 @@ impl<J: Naming> LockedState<J> {
     }
 
     pub fn refuse(&mut self, refused: TaskRefused) -> Refusal
-        ensures task { (m : Machine) → StandsFor self.old.core m → Refuses self.old.core m refused.task result self.new.core }
+        ensures task { (m : Machine) → StandsFor self.old.core m → AnswersRefusal self.old.core m refused.task result self.new.core }
         ensures rest { (self.new.closed ≡ self.old.closed) × (self.new.asleep ≡ self.old.asleep) }
     {
         self.core.refuse(refused)

@@ -27,11 +27,10 @@ mod blocks;
 mod board;
 mod kept;
 mod pass;
-mod payloads;
-mod places;
 mod roll;
 mod same;
 mod signals;
+mod stretches;
 mod tickets;
 mod workers;
 

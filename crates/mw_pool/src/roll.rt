@@ -4,7 +4,7 @@
 
 ghost use Rattle.std.specs.Prelude.{◌≡◌, ◌+◌, ◌==◌, ◌<◌, ◌≤◌, ◌^◌, ◌++◌, ◌∷◌, [], length, IfSome, IfNone, IsTrue, MatchBool};
 ghost use mathlib.Core.List.{IsPrefix};
-ghost use Rattle.mw_pool.specs.Rolls.{EndsWith, StandsIn, Writes, head_of};
+ghost use Rattle.mw_pool.specs.Rolls.{EndsWith, StandsIn, Writes, book_head};
 
 use logbook::{Gain, Offer, Plain, Play, Rule, Seen, Start, Word};
 use mw_core::Started;
@@ -17,9 +17,9 @@ pub struct RollRule;
 impl Rule<Work, u64> for RollRule {
     ghost use Rattle.std.specs.Prelude.{[]};
     ghost use base.Fml.{ftrue};
-    ghost use Rattle.mw_pool.specs.Rolls.{IsKept};
+    ghost use Rattle.mw_pool.specs.Rolls.{IsBookOf};
 
-    ghost holds = { λ cells log. IsKept cells log };
+    ghost holds = { λ cells log. IsBookOf cells log };
 
     ghost first = { [] };
 
@@ -88,11 +88,11 @@ impl Model for NewRoll {
 
     ghost coded = { book_coded };
 
-    ghost use Rattle.mw_pool.specs.Rolls.{head_of};
+    ghost use Rattle.mw_pool.specs.Rolls.{book_head};
 
     ghost view = { λ n. n.seen.book };
 
-    ghost invariant = { λ n. (n.seen.log ≡ []) × (n.head ≡ head_of n.seen.book) };
+    ghost invariant = { λ n. (n.seen.log ≡ []) × (n.head ≡ book_head n.seen.book) };
 }
 
 impl NewRoll {
@@ -154,7 +154,7 @@ impl<J: Naming> Front<J> {
 
     /// Adds a task to all that was seen, and says whether it did. It did not where the roll is longer.
     fn add(&mut self, head: &Head, work: &Work) -> bool
-        requires head { head.now ≡ head_of J.book }
+        requires head { head.now ≡ book_head J.book }
         requires room { length self.old < 2 ^ 62 }
         ensures { IsTrue result → self.new ≡ self.old ++ work.now ∷ [] }
     {
@@ -191,13 +191,13 @@ pub(crate) struct Roll<J: Naming> {
 impl<J: Naming> Model for Roll<J> {
     ghost use Rattle.std.specs.Prelude.{◌≡◌, List};
     ghost use Rattle.mw_core.specs.mw_step_task.WindowTasks.{WindowTask};
-    ghost use Rattle.mw_pool.specs.Rolls.{head_of};
+    ghost use Rattle.mw_pool.specs.Rolls.{book_head};
 
     ghost Value = { List WindowTask };
 
     ghost view = { λ r. r.front };
 
-    ghost invariant = { λ r. r.head ≡ head_of J.book };
+    ghost invariant = { λ r. r.head ≡ book_head J.book };
 }
 
 impl<J: Naming> Roll<J> {

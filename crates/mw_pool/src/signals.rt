@@ -37,7 +37,7 @@ impl Sleepers {
         }
     }
 
-    /// Where a running task found no memory, the same.
+    /// Where a running task found no memory, its ticket is killed too.
     pub fn of_refusal(answer: &Refusal) -> Sleepers
         ensures { result ≡ killed_by answer.now }
     {

@@ -21,7 +21,7 @@ use Rattle.mw_session_fetch.specs.Texts.{SaysFetched}
 use Rattle.mw_pool.specs.Passes.{AddsReceipt}
 use Rattle.mw_pool.specs.Payloads.{TellsImage, TellsElement}
 use Rattle.mw_session_fetch.specs.mw_wire.Writes.{told_text}
-use Rattle.mw_pool_session.specs.Serving.{Served, refused, received}
+use Rattle.mw_pool_session.specs.Serving.{RequestServed, refused, received}
 
 -- no value goes with a reply that shows none
 no-value : (a : Reply) → (ShowsSome a → ⊥) → MayHand a NoValue
@@ -40,18 +40,18 @@ plain-text : (a : Reply) → (ShowsSome a → ⊥) → IsTextOf a (reply_text a 
 plain-text a none = inl (NoValue, no-value a none, refl)
 
 pub served-load : {E : Type 0} (name : Name) (bytes : List ℕ) (old new : List Receipt) (r : Result Reply E) → IfOk r (λ a. (g : Given) × TellsImage bytes g × AddsReceipt old new (call.Load name g) a) → IfOk r (λ a. ShowsSome a → ⊥) → OnErr r (new ≡ old)
-    → Served old (AskLoad name bytes) (told_text r) new
+    → RequestServed old (AskLoad name bytes) (told_text r) new
 served-load name bytes old new (Ok a) (g, tells, adds) none stays =
     received (call.Load name g) a (g, tells, refl) adds (plain-text a none)
 served-load name bytes old new (Err e) made none stays = refused stays refl
 
 pub served-element : {E : Type 0} (name : Name) (ox oy : ℕ) (bytes seen : List ℕ) (old new : List Receipt) (r : Result Reply E) → seen ≡ bytes → IfOk r (λ a. (g : Given) × TellsElement seen ox oy g × AddsReceipt old new (call.Element name g) a) → IfOk r (λ a. ShowsSome a → ⊥) → OnErr r (new ≡ old)
-    → Served old (AskElement name ox oy bytes) (told_text r) new
+    → RequestServed old (AskElement name ox oy bytes) (told_text r) new
 served-element name ox oy bytes seen old new (Ok a) same (g, tells, adds) none stays =
     let P : List ℕ → Type 0 = λ l. TellsElement l ox oy g in received (call.Element name g) a (g, subst P same tells, refl) adds (plain-text a none)
 served-element name ox oy bytes seen old new (Err e) same made none stays = refused stays refl
 
-pub served-alone : {E : Type 0} (q : Ask) (c : Call) (old new : List Receipt) (r : Result Reply E) → Calls q c → IfOk r (λ a. AddsReceipt old new c a) → IfOk r (λ a. ShowsSome a → ⊥) → OnErr r (new ≡ old) → Served old (AskAlone q) (told_text r) new
+pub served-alone : {E : Type 0} (q : Ask) (c : Call) (old new : List Receipt) (r : Result Reply E) → Calls q c → IfOk r (λ a. AddsReceipt old new c a) → IfOk r (λ a. ShowsSome a → ⊥) → OnErr r (new ≡ old) → RequestServed old (AskAlone q) (told_text r) new
 served-alone q c old new (Ok a) calls adds none stays = received c a calls adds (plain-text a none)
 served-alone q c old new (Err e) calls adds none stays = refused stays refl
 
@@ -65,6 +65,6 @@ may-hand a (shown.Curve volumes) h =
     let w = h.0 refl in
     rw w.1 (inr (volumes, refl))
 
-pub served-fetched : (name : Name) (old new : List Receipt) (a : Reply) (v : FetchedValue) (text : List ℕ) → AddsReceipt old new (call.Fetch name) a → IsSome (shown_value v) ↔ ShowsSome a → SaysFetched a v text → Served old (AskAlone (ask.Fetch name)) text new
+pub served-fetched : (name : Name) (old new : List Receipt) (a : Reply) (v : FetchedValue) (text : List ℕ) → AddsReceipt old new (call.Fetch name) a → IsSome (shown_value v) ↔ ShowsSome a → SaysFetched a v text → RequestServed old (AskAlone (ask.Fetch name)) text new
 served-fetched name old new a v text adds h (inl e) = received (call.Fetch name) a refl adds (inl (handed_value (shown_value v), may-hand a v h, e))
 served-fetched name old new a v text adds h (inr e) = received (call.Fetch name) a refl adds (inr e)

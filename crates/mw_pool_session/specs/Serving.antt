@@ -20,19 +20,19 @@ use Rattle.mw_session_fetch.specs.mw_wire.Runs.{DeskRan}
 use Rattle.mw_session_fetch.specs.mw_wire.declared.fault.SessionFault.{SessionFault}
 
 -- the call that is made of a request, with what its payload was found to be
-abbrev pub Makes : Asked → Call → Type 0
-Makes (AskLoad name bytes) c = (g : Given) × TellsImage bytes g × (c ≡ call.Load name g)
-Makes (AskElement name ox oy bytes) c = (g : Given) × TellsElement bytes ox oy g × (c ≡ call.Element name g)
-Makes (AskAlone a) c = Calls a c
+abbrev pub MakesCall : Asked → Call → Type 0
+MakesCall (AskLoad name bytes) c = (g : Given) × TellsImage bytes g × (c ≡ call.Load name g)
+MakesCall (AskElement name ox oy bytes) c = (g : Given) × TellsElement bytes ox oy g × (c ≡ call.Element name g)
+MakesCall (AskAlone a) c = Calls a c
 
 -- A request was served at a board. Its call found no memory, and that is written; or the pass has one receipt more, of its call, and this is written of the receipt's reply.
-pub data Served (old : List Receipt) (r : Asked) (text : List ℕ) (new : List Receipt) : Type 0 where
-  refused : new ≡ old → text ≡ refusal_text Memory → Served old r text new
-  received : (c : Call) (a : Reply) → Makes r c → AddsReceipt old new c a → IsTextOf a text → Served old r text new
+pub data RequestServed (old : List Receipt) (r : Asked) (text : List ℕ) (new : List Receipt) : Type 0 where
+  refused : new ≡ old → text ≡ refusal_text Memory → RequestServed old r text new
+  received : (c : Call) (a : Reply) → MakesCall r c → AddsReceipt old new c a → IsTextOf a text → RequestServed old r text new
 
 -- a session was served with a pass of its own, from its first request to some end
 abbrev pub ServedWhole : List Receipt → Option (List ℕ) → Option (List ℕ) → Option (List ℕ) → Option (List ℕ) → Type 0
-ServedWhole pass had left before after = (end : Result End SessionFault) × DeskRan Served [] pass had left before after end
+ServedWhole pass had left before after = (end : Result End SessionFault) × DeskRan RequestServed [] pass had left before after end
 
 -- ---- whole sessions, in the words of receipts
 

@@ -1,9 +1,10 @@
 //! A session's place at a board.
 
-ghost use Rattle.std.specs.Prelude.{◌≡◌, ◌≢◌, ℕ, List, OnOk, OnErr, Err, true};
+ghost use Rattle.std.specs.Prelude.{◌≢◌, ℕ, List};
 ghost use Rattle.mw_model.specs.declared.requests.Ask.TheVariants as Ask;
 ghost use Rattle.mw_model.specs.Lines.{AskAlone};
 ghost use Rattle.mw_session_fetch.specs.mw_session_intake.Intake.{asked};
+ghost use Rattle.mw_session_fetch.specs.mw_wire.Failures.{RemembersFailure};
 ghost use Rattle.mw_session_fetch.specs.mw_wire.Writes.{Wrote};
 
 use mw_model::{Name, NoMemory, Request};
@@ -23,7 +24,7 @@ pub(crate) struct BoardHandler<'b, R, J: Naming> {
 }
 
 impl<'b, R: Wait, J: Naming> BoardHandler<'b, R, J> {
-    ghost use Rattle.mw_pool_session.specs.Serving.{Served};
+    ghost use Rattle.mw_pool_session.specs.Serving.{RequestServed};
     ghost use Rattle.mw_model.specs.declared.requests.Ask.TheVariants as Ask;
     ghost use Rattle.mw_model.specs.Lines.{AskAlone};
 
@@ -33,9 +34,8 @@ impl<'b, R: Wait, J: Naming> BoardHandler<'b, R, J> {
         pass: &mut Pass,
         name: Name,
     ) -> Result<(), SessionFault>
-        ensures answered { (text : List ℕ) × Served pass.old (AskAlone (Ask.Fetch name)) text pass.new × Wrote (W.contents sink.old.inner) (W.contents sink.new.inner) text result }
-        ensures same { OnOk result (sink.new.failed ≡ sink.old.failed) }
-        ensures flag { OnErr result ((result ≡ Err SessionFault.Write) × (sink.new.failed ≡ true)) }
+        ensures answered { (text : List ℕ) × RequestServed pass.old (AskAlone (Ask.Fetch name)) text pass.new × Wrote (W.contents sink.old.inner) (W.contents sink.new.inner) text result }
+        ensures remembers { RemembersFailure sink.old.failed sink.new.failed result }
     {
         match self.board.fetch(self.rt, pass, name) {
             Ok(fetched) => say_fetched(self.alloc, sink, fetched),
@@ -45,11 +45,11 @@ impl<'b, R: Wait, J: Naming> BoardHandler<'b, R, J> {
 }
 
 impl<'b, R: Wait, J: Naming> Handler for BoardHandler<'b, R, J> {
-    ghost use Rattle.mw_pool_session.specs.Serving.{Served};
+    ghost use Rattle.mw_pool_session.specs.Serving.{RequestServed};
 
     type Kept = Pass;
 
-    ghost Answer = { Served };
+    ghost Answer = { RequestServed };
 
     fn answer<W: Write>(
         &mut self,

@@ -1,8 +1,9 @@
 //! A whole session at a board, from a reader to a writer.
 
-ghost use Rattle.std.specs.Prelude.{◌≡◌, ◌≤◌, ◌⊎◌, Err, false, true};
+ghost use Rattle.std.specs.Prelude.{◌≡◌, false};
+ghost use Rattle.mw_session_fetch.specs.mw_wire.Failures.{IsUnread, TellsFailures};
 ghost use Rattle.mw_session_fetch.specs.mw_wire.Runs.{DeskRan};
-ghost use Rattle.mw_pool_session.specs.Serving.{Served};
+ghost use Rattle.mw_pool_session.specs.Serving.{RequestServed};
 
 use crate::counter::BoardHandler;
 use mw_model::End;
@@ -16,7 +17,7 @@ use std::sync::Wait;
 /// pass. The replies to what came with one read go out together, before more is read. Want of memory is `ERR 50 MEMORY` for
 /// that request, and ends the session where a line or a payload is gathered.
 ///
-/// A session makes at most 4,294,967,295 reads, and makes one again that was interrupted.
+/// A session makes at most `READ_LIMIT` reads, and makes one again that was interrupted.
 pub fn serve<R: Read, W: Write, X: Wait, J: Naming>(
     rt: &X,
     alloc: Global,
@@ -25,16 +26,11 @@ pub fn serve<R: Read, W: Write, X: Wait, J: Naming>(
     board: &Board<J>,
     pass: &mut Pass,
 ) -> Result<End, SessionFault>
-    requires source_clear { source.old.failed ≡ false }
+    requires source_fresh { IsUnread source.old.failed source.old.reads }
     requires sink_clear { sink.old.failed ≡ false }
-    requires unread { source.old.reads ≡ 0 }
     // The receipts that were added are those of the requests that were read, and what was written is their replies, or what a fault left of it.
-    ensures ran { DeskRan Served pass.old pass.new (R.remaining source.old.inner) (R.remaining source.new.inner) (W.contents sink.old.inner) (W.contents sink.new.inner) result }
-    ensures few_reads { source.new.reads ≤ 4294967295 }
-    ensures read_fault { result ≡ Err SessionFault.Read → (source.new.failed ≡ true) ⊎ (source.new.reads ≡ 4294967295) }
-    ensures write_fault { result ≡ Err SessionFault.Write → sink.new.failed ≡ true }
-    ensures reader_failed { source.new.failed ≡ true → result ≡ Err SessionFault.Read }
-    ensures writer_failed { sink.new.failed ≡ true → result ≡ Err SessionFault.Write }
+    ensures ran { DeskRan RequestServed pass.old pass.new (R.remaining source.old.inner) (R.remaining source.new.inner) (W.contents sink.old.inner) (W.contents sink.new.inner) result }
+    ensures failures { TellsFailures source.new.failed source.new.reads sink.new.failed result }
 {
     let mut counter = BoardHandler { rt, alloc, board };
     run_session(alloc, source, sink, &mut counter, pass)

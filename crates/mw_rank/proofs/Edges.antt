@@ -16,7 +16,7 @@ use Rattle.mw_element_runs.specs.declared.runs.Run.{Run}
 use Rattle.mw_element_runs.specs.Runs.{start_offset}
 use Rattle.mw_rank.specs.Ends.{levels_left, levels_entered, first_seen, next_seen, HasEnds, AreEnds, AddsEnds}
 use Rattle.mw_rank.specs.Ranks.{levels_under, levels_at, GainsRow}
-use Rattle.mw_rank.specs.Runs.{offsets_from, offsets_of, element_of}
+use Rattle.mw_rank.specs.Runs.{offsets_from, offsets_of_run, element_of}
 use Rattle.mw_rank.specs.Tallies.{count_under, Tallies}
 use Rattle.mw_rank.proofs.Counts.{Same, tallies_same, count-append, count-cons}
 use Rattle.mw_rank.proofs.Sights.{levels-append, length-levels, seen_inside}
@@ -93,7 +93,7 @@ pub before_move : {A : Type 0} (level : A → ℕ) (sight : Sight A) (runs : Lis
 before_move level sight [] x y = record { counts = λ v. refl; size = refl }
 before_move level sight (r ∷ rs) x y =
     split_before _ (first_seen level sight rs x y) (levels_under level sight (element_of rs) x y) (levels_at level sight (start_offset r) x y) _ _ (levels_under level sight (offsets_from (start_offset r) (r.count - 1)) (x + 1) y) (kept level sight rs x y)
-    (ap (λ (t : List _). levels_under level sight t x y) (flat_map-cons offsets_of r rs) ∙ levels-append level sight (offsets_of r) (element_of rs) x y ∙ ap (λ (t : List ℕ). t ++ levels_under level sight (element_of rs) x y) (run_before level sight r x y))
+    (ap (λ (t : List _). levels_under level sight t x y) (flat_map-cons offsets_of_run r rs) ∙ levels-append level sight (offsets_of_run r) (element_of rs) x y ∙ ap (λ (t : List ℕ). t ++ levels_under level sight (element_of rs) x y) (run_before level sight r x y))
     (flat_map-cons (λ (q : Run). levels_at level sight (start_offset q) x y) r rs) (flat_map-cons (λ (q : Run). levels_under level sight (offsets_from (start_offset q) (q.count - 1)) (x + 1) y) r rs) (before_move level sight rs x y)
 
 -- after it, what is seen is what enters and what stays
@@ -101,7 +101,7 @@ pub after_move : {A : Type 0} (level : A → ℕ) (sight : Sight A) (runs : List
 after_move level sight [] x y = record { counts = λ v. refl; size = refl }
 after_move level sight (r ∷ rs) x y =
     split_after _ (next_seen level sight rs x y) (levels_under level sight (element_of rs) (x + 1) y) (levels_at level sight (start_offset r) (x + 1 + (r.count - 1)) y) _ _ (levels_under level sight (offsets_from (start_offset r) (r.count - 1)) (x + 1) y) (kept level sight rs x y)
-    (ap (λ (t : List _). levels_under level sight t (x + 1) y) (flat_map-cons offsets_of r rs) ∙ levels-append level sight (offsets_of r) (element_of rs) (x + 1) y ∙ ap (λ (t : List ℕ). t ++ levels_under level sight (element_of rs) (x + 1) y) (run_after level sight r x y))
+    (ap (λ (t : List _). levels_under level sight t (x + 1) y) (flat_map-cons offsets_of_run r rs) ∙ levels-append level sight (offsets_of_run r) (element_of rs) (x + 1) y ∙ ap (λ (t : List ℕ). t ++ levels_under level sight (element_of rs) (x + 1) y) (run_after level sight r x y))
     (flat_map-cons (λ (q : Run). levels_at level sight (start_offset q) (x + 1 + (q.count - 1)) y) r rs) (flat_map-cons (λ (q : Run). levels_under level sight (offsets_from (start_offset q) (q.count - 1)) (x + 1) y) r rs) (after_move level sight rs x y)
 
 to_front : (a : ℕ) (e l r : List ℕ) → Same (e ++ (a ∷ l ++ r)) (a ∷ (e ++ (l ++ r)))

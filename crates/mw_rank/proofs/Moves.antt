@@ -3,13 +3,13 @@ use Rattle.std.proofs.Common.{◌≡◌, ◌-◌, ℕ, zero, suc, ◌+◌, ◌<�
 use Rattle.std.specs.List.{flat_map}
 use Rattle.std.proofs.lemmas.List.{take_more, drop_more}
 use Rattle.std.proofs.lemmas.List.Concat.{flat_map-append, flat_map-cons}
-use Rattle.mw_model.specs.declared.places.Offset.{Offset}
+use Rattle.mw_model.specs.declared.offsets.Offset.{Offset}
 use Rattle.mw_model.specs.Rasters.{Sight}
 use Rattle.mw_rank.specs.declared.histogram.Histogram.{Histogram}
 use Rattle.mw_element_runs.specs.declared.runs.Run.{Run}
 use Rattle.mw_element_runs.specs.Runs.{start_offset}
 use Rattle.mw_rank.specs.Ranks.{levels_under, levels_at}
-use Rattle.mw_rank.specs.Runs.{next_offset, offsets_from, offsets_of, element_of}
+use Rattle.mw_rank.specs.Runs.{next_offset, offsets_from, offsets_of_run, element_of}
 use Rattle.mw_rank.specs.Tallies.{Tallies}
 use Rattle.mw_rank.proofs.Counts.{Same, count-append}
 use Rattle.mw_rank.proofs.Sights.{levels-cons, levels-append, length-levels, offsets-snoc, length-offsets, levels_at-on, levels-next}
@@ -56,11 +56,11 @@ same_last a c d e = record {
 pub same_snoc : (a e : List ℕ) → Same (e ++ a) (a ++ e)
 same_snoc a e = record { counts = λ v. omega (arith, count-append v e a, count-append v a e); size = omega (arith, length-append e a, length-append a e) }
 
-pub run_before : {A : Type 0} (level : A → ℕ) (sight : Sight A) (r : Run) (x y : ℕ) → levels_under level sight (offsets_of r) x y ≡ levels_at level sight (start_offset r) x y ++ levels_under level sight (offsets_from (start_offset r) (r.count - 1)) (x + 1) y
+pub run_before : {A : Type 0} (level : A → ℕ) (sight : Sight A) (r : Run) (x y : ℕ) → levels_under level sight (offsets_of_run r) x y ≡ levels_at level sight (start_offset r) x y ++ levels_under level sight (offsets_from (start_offset r) (r.count - 1)) (x + 1) y
 run_before level sight r x y =
     levels-cons level sight (start_offset r) (offsets_from (next_offset (start_offset r)) (r.count - 1)) x y ∙ ap (λ (t : List ℕ). levels_at level sight (start_offset r) x y ++ t) (levels-next level sight (start_offset r) (r.count - 1) x y)
 
-pub run_after : {A : Type 0} (level : A → ℕ) (sight : Sight A) (r : Run) (x y : ℕ) → levels_under level sight (offsets_of r) (x + 1) y ≡ levels_under level sight (offsets_from (start_offset r) (r.count - 1)) (x + 1) y ++ levels_at level sight (start_offset r) (x + 1 + (r.count - 1)) y
+pub run_after : {A : Type 0} (level : A → ℕ) (sight : Sight A) (r : Run) (x y : ℕ) → levels_under level sight (offsets_of_run r) (x + 1) y ≡ levels_under level sight (offsets_from (start_offset r) (r.count - 1)) (x + 1) y ++ levels_at level sight (start_offset r) (x + 1 + (r.count - 1)) y
 run_after level sight r x y =
     ap (λ (t : List Offset). levels_under level sight t (x + 1) y) (offsets-snoc (start_offset r) (r.count - 1))
     ∙ levels-append level sight (offsets_from (start_offset r) (r.count - 1)) (_ ∷ []) (x + 1) y
@@ -74,8 +74,8 @@ levels-leaving level sight runs i r x y lt is =
     let split : levels_under level sight (element_of (drop i runs)) x y ≡ (levels_at level sight (start_offset r) x y ++ levels_under level sight (offsets_from (start_offset r) (r.count - 1)) (x + 1) y) ++ levels_under level sight rest x y =
     ap (λ (t : List Run). levels_under level sight (element_of t) x y) (drop_more runs i r lt)
     ∙ ap (λ (t : Run). levels_under level sight (element_of (t ∷ drop (i + 1) runs)) x y) is
-    ∙ ap (λ (t : List Offset). levels_under level sight t x y) (flat_map-cons offsets_of r (drop (i + 1) runs))
-    ∙ levels-append level sight (offsets_of r) rest x y
+    ∙ ap (λ (t : List Offset). levels_under level sight t x y) (flat_map-cons offsets_of_run r (drop (i + 1) runs))
+    ∙ levels-append level sight (offsets_of_run r) rest x y
     ∙ ap (λ (t : List ℕ). t ++ levels_under level sight rest x y) (run_before level sight r x y) in
     subst (λ (t : List ℕ). Same (levels_under level sight (element_of (take i runs)) (x + 1) y ++ t) (levels_at level sight (start_offset r) x y ++ staying level sight runs i r x y)) (sym split)
     (same_first (levels_under level sight (element_of (take i runs)) (x + 1) y) (levels_at level sight (start_offset r) x y) (levels_under level sight (offsets_from (start_offset r) (r.count - 1)) (x + 1) y) (levels_under level sight rest x y))
@@ -87,17 +87,17 @@ levels-entering level sight runs i r x y lt is =
     let e = levels_at level sight (start_offset r) (x + 1 + (r.count - 1)) y in
     let split : levels_under level sight (element_of (take (i + 1) runs)) (x + 1) y ≡ levels_under level sight first (x + 1) y ++ (levels_under level sight (offsets_from (start_offset r) (r.count - 1)) (x + 1) y ++ e) =
     ap (λ (t : List Run). levels_under level sight (element_of t) (x + 1) y) (take_more runs i r lt ∙ ap (λ (t : Run). take i runs ++ t ∷ []) is)
-    ∙ ap (λ (t : List Offset). levels_under level sight t (x + 1) y) (flat_map-append offsets_of (take i runs) (r ∷ []) ∙ ap (λ (t : List Offset). first ++ t) (one_run r))
-    ∙ levels-append level sight first (offsets_of r) (x + 1) y
+    ∙ ap (λ (t : List Offset). levels_under level sight t (x + 1) y) (flat_map-append offsets_of_run (take i runs) (r ∷ []) ∙ ap (λ (t : List Offset). first ++ t) (one_run r))
+    ∙ levels-append level sight first (offsets_of_run r) (x + 1) y
     ∙ ap (λ (t : List ℕ). levels_under level sight first (x + 1) y ++ t) (run_after level sight r x y) in
     subst (λ (t : List ℕ). Same (e ++ staying level sight runs i r x y) (t ++ levels_under level sight (element_of (drop (i + 1) runs)) x y)) (sym split)
     (same_last (levels_under level sight first (x + 1) y) (levels_under level sight (offsets_from (start_offset r) (r.count - 1)) (x + 1) y) (levels_under level sight (element_of (drop (i + 1) runs)) x y) e)
   where
-    one_run : (r : Run) → flat_map offsets_of (r ∷ []) ≡ offsets_of r
-    one_run r = flat_map-cons offsets_of r [] ∙ append-nil (offsets_of r)
+    one_run : (r : Run) → flat_map offsets_of_run (r ∷ []) ≡ offsets_of_run r
+    one_run r = flat_map-cons offsets_of_run r [] ∙ append-nil (offsets_of_run r)
 
 element_cons : (q : Run) (runs : List Run) → length (element_of (q ∷ runs)) ≡ suc (q.count - 1) + length (element_of runs)
-element_cons q runs = ap length (flat_map-cons offsets_of q runs) ∙ length-append (offsets_of q) (element_of runs) ∙ ap (λ (t : ℕ). t + length (element_of runs)) (length-offsets (start_offset q) (suc (q.count - 1)))
+element_cons q runs = ap length (flat_map-cons offsets_of_run q runs) ∙ length-append (offsets_of_run q) (element_of runs) ∙ ap (λ (t : ℕ). t + length (element_of runs)) (length-offsets (start_offset q) (suc (q.count - 1)))
 
 pub element_size : (runs : List Run) (i : ℕ) (r : Run) → i < length runs → get_or runs i r ≡ r → length (element_of runs) ≡ length (element_of (take i runs)) + (suc (r.count - 1) + length (element_of (drop (i + 1) runs)))
 element_size [] i r lt is = absurd (omega arith)
@@ -132,9 +132,9 @@ length-staying level sight runs i r x y lt is =
 pub tallies_at : {A : Type 0} (level : A → ℕ) (sight : Sight A) (bs : List Offset) (a b y top : ℕ) (h : Histogram) → a ≡ b → Tallies top h (levels_under level sight bs a y) → Tallies top h (levels_under level sight bs b y)
 tallies_at level sight bs a b y top h e t = subst (λ (v : ℕ). Tallies top h (levels_under level sight bs v y)) e t
 
-pub element_snoc : (runs : List Run) (run : Run) → element_of (runs ++ run ∷ []) ≡ element_of runs ++ offsets_of run
-element_snoc runs run = flat_map-append offsets_of runs (run ∷ []) ∙ ap (λ (t : List Offset). element_of runs ++ t) (flat_map-cons offsets_of run [] ∙ append-nil (offsets_of run))
+pub element_snoc : (runs : List Run) (run : Run) → element_of (runs ++ run ∷ []) ≡ element_of runs ++ offsets_of_run run
+element_snoc runs run = flat_map-append offsets_of_run runs (run ∷ []) ∙ ap (λ (t : List Offset). element_of runs ++ t) (flat_map-cons offsets_of_run run [] ∙ append-nil (offsets_of_run run))
 
--- the same offset under another name
+-- the tallies from an offset under another name
 pub tallies_from : {A : Type 0} (level : A → ℕ) (sight : Sight A) (b start : Offset) (x y top : ℕ) (h : Histogram) (ns : List ℕ) → b ≡ start → Tallies top h (levels_at level sight start x y ++ ns) → Tallies top h (levels_at level sight b x y ++ ns)
 tallies_from level sight b start x y top h ns e t = subst (λ (o : Offset). Tallies top h (levels_at level sight o x y ++ ns)) (sym e) t

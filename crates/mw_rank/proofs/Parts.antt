@@ -8,16 +8,16 @@ use Rattle.std.proofs.lemmas.List.{take_more, get_or-take, get_or-drop, map-appe
 use Rattle.std.proofs.lemmas.Option.{slice_get-get_or}
 use Rattle.std.proofs.lemmas.List.Concat.{flat_map-cons}
 use Rattle.std.proofs.Math.ListN.{length-map}
-use Rattle.mw_model.specs.Places.{nonnegative}
+use Rattle.mw_model.specs.Rectangles.{nonnegative}
 use Rattle.mw_model.specs.Rasters.{Sight, raster, cell_at}
 use Rattle.mw_model.specs.Windows.{View, seen_at}
-use Rattle.mw_model.specs.declared.places.Offset.{Offset}
+use Rattle.mw_model.specs.declared.offsets.Offset.{Offset}
 use Rattle.mw_tile.proofs.mw_pixel.Cells.{cell_at-inside, cell_at-right}
 use Rattle.mw_rank.specs.declared.histogram.Histogram.{Histogram}
 use Rattle.mw_element_runs.specs.declared.runs.Run.{Run}
 use Rattle.mw_element_runs.specs.Runs.{start_offset}
 use Rattle.mw_rank.specs.Ranks.{levels_under, levels_at}
-use Rattle.mw_rank.specs.Runs.{next_offset, offsets_from, offsets_of, element_of}
+use Rattle.mw_rank.specs.Runs.{next_offset, offsets_from, offsets_of_run, element_of}
 use Rattle.mw_rank.specs.Tallies.{Tallies}
 use Rattle.mw_rank.proofs.Counts.{tallies_same}
 use Rattle.mw_rank.proofs.Edges.{more_entered}
@@ -115,7 +115,7 @@ is_row w row samples down cells_size size is = record {
 -- what a run shows is a part of the row
 pub part_seen : {A : Type 0} (level : A → ℕ) (d : A) (w : View A) (run : Run) (x y row : ℕ) (from to : ℤ) (begin end wide : ℕ) (samples : List A) → wide ≡ w.place.width → row < w.place.height → length w.cells ≡ w.place.height * w.place.width → length samples ≡ w.place.width
     → samples ≡ take (row * w.place.width + w.place.width - row * w.place.width) (drop (row * w.place.width) w.cells) → pos x +ℤ run.dx -ℤ pos w.place.x ≡ from → pos y +ℤ run.dy -ℤ pos w.place.y ≡ pos row
-    → to ≡ from +ℤ pos (suc (run.count - 1)) → begin ≡ min (nonnegative from) wide → end ≡ min (nonnegative to) wide → map level (take (end - begin) (drop begin samples)) ≡ levels_under level (seen_at w) (offsets_of run) x y
+    → to ≡ from +ℤ pos (suc (run.count - 1)) → begin ≡ min (nonnegative from) wide → end ≡ min (nonnegative to) wide → map level (take (end - begin) (drop begin samples)) ≡ levels_under level (seen_at w) (offsets_of_run run) x y
 part_seen level d w run x y row from to begin end wide samples wide-is down cells_size size is from-is row-is to-is begin-is end-is =
     ap (λ (t : ℕ). map level (take (end - t) (drop t samples))) (begin-is ∙ ap (min (nonnegative from)) wide-is)
     ∙ ap (λ (t : ℕ). map level (take (t - min (nonnegative from) w.place.width) (drop (min (nonnegative from) w.place.width) samples))) (end-is ∙ ap (min (nonnegative to)) wide-is)
@@ -129,54 +129,54 @@ part_unseen level w b (suc n) x y none =
     levels-cons level (seen_at w) b (offsets_from (next_offset b) n) x y
     ∙ none_more level (seen_at w (pos x +ℤ b.dx) (pos y +ℤ b.dy)) _ [] (none (pos x +ℤ b.dx -ℤ pos w.place.x)) (part_unseen level w (next_offset b) n x y none)
 
-taken_one : (runs : List Run) (j : ℕ) (r : Run) → j < length runs → get_or runs j r ≡ r → element_of (take (j + 1) runs) ≡ element_of (take j runs) ++ offsets_of r
+taken_one : (runs : List Run) (j : ℕ) (r : Run) → j < length runs → get_or runs j r ≡ r → element_of (take (j + 1) runs) ≡ element_of (take j runs) ++ offsets_of_run r
 taken_one runs j r lt is = ap element_of (take_more runs j r lt ∙ ap (λ (t : Run). take j runs ++ t ∷ []) is) ∙ element_snoc (take j runs) r
 
-dropped_one : (runs : List Run) (j : ℕ) (r : Run) → j < length runs → get_or runs j r ≡ r → element_of (drop j runs) ≡ offsets_of r ++ element_of (drop (j + 1) runs)
-dropped_one runs j r lt is = ap element_of (drop_more runs j r lt ∙ ap (λ (t : Run). t ∷ drop (j + 1) runs) is) ∙ flat_map-cons offsets_of r (drop (j + 1) runs)
+dropped_one : (runs : List Run) (j : ℕ) (r : Run) → j < length runs → get_or runs j r ≡ r → element_of (drop j runs) ≡ offsets_of_run r ++ element_of (drop (j + 1) runs)
+dropped_one runs j r lt is = ap element_of (drop_more runs j r lt ∙ ap (λ (t : Run). t ∷ drop (j + 1) runs) is) ∙ flat_map-cons offsets_of_run r (drop (j + 1) runs)
 
 -- a run more is counted
-pub run_entered : {A : Type 0} (level : A → ℕ) (sight : Sight A) (runs : List Run) (j : ℕ) (r : Run) (x y top : ℕ) (h : Histogram) (part : List ℕ) → j < length runs → get_or runs j r ≡ r → part ≡ levels_under level sight (offsets_of r) x y
+pub run_entered : {A : Type 0} (level : A → ℕ) (sight : Sight A) (runs : List Run) (j : ℕ) (r : Run) (x y top : ℕ) (h : Histogram) (part : List ℕ) → j < length runs → get_or runs j r ≡ r → part ≡ levels_under level sight (offsets_of_run r) x y
     → Tallies top h (part ++ levels_under level sight (element_of (take j runs)) x y) → Tallies top h (levels_under level sight (element_of (take (j + 1) runs)) x y)
 run_entered level sight runs j r x y top h part lt is part-is t =
     let split : levels_under level sight (element_of (take (j + 1) runs)) x y ≡ levels_under level sight (element_of (take j runs)) x y ++ part =
     ap (λ (t : List Offset). levels_under level sight t x y) (taken_one runs j r lt is)
-    ∙ levels-append level sight (element_of (take j runs)) (offsets_of r) x y
+    ∙ levels-append level sight (element_of (take j runs)) (offsets_of_run r) x y
     ∙ ap (λ (t : List ℕ). levels_under level sight (element_of (take j runs)) x y ++ t) (sym part-is) in
     subst (λ (l : List ℕ). Tallies top h l) (sym split) (tallies_same top h _ _ (same_snoc (levels_under level sight (element_of (take j runs)) x y) part) t)
 
 -- the next run that is to leave
-pub run_left : {A : Type 0} (level : A → ℕ) (sight : Sight A) (runs : List Run) (j : ℕ) (r : Run) (x y top : ℕ) (h : Histogram) (part : List ℕ) → j < length runs → get_or runs j r ≡ r → part ≡ levels_under level sight (offsets_of r) x y
+pub run_left : {A : Type 0} (level : A → ℕ) (sight : Sight A) (runs : List Run) (j : ℕ) (r : Run) (x y top : ℕ) (h : Histogram) (part : List ℕ) → j < length runs → get_or runs j r ≡ r → part ≡ levels_under level sight (offsets_of_run r) x y
     → Tallies top h (levels_under level sight (element_of (drop j runs)) x y) → Tallies top h (part ++ levels_under level sight (element_of (drop (j + 1) runs)) x y)
 run_left level sight runs j r x y top h part lt is part-is t =
     let split : levels_under level sight (element_of (drop j runs)) x y ≡ part ++ levels_under level sight (element_of (drop (j + 1) runs)) x y =
     ap (λ (t : List Offset). levels_under level sight t x y) (dropped_one runs j r lt is)
-    ∙ levels-append level sight (offsets_of r) (element_of (drop (j + 1) runs)) x y
+    ∙ levels-append level sight (offsets_of_run r) (element_of (drop (j + 1) runs)) x y
     ∙ ap (λ (t : List ℕ). t ++ levels_under level sight (element_of (drop (j + 1) runs)) x y) (sym part-is) in
     subst (λ (l : List ℕ). Tallies top h l) split t
 
 -- there is room for one run more
-pub room_for_run : {A : Type 0} (level : A → ℕ) (sight : Sight A) (runs : List Run) (j : ℕ) (r : Run) (x y : ℕ) (part : List A) → j < length runs → get_or runs j r ≡ r → map level part ≡ levels_under level sight (offsets_of r) x y
+pub room_for_run : {A : Type 0} (level : A → ℕ) (sight : Sight A) (runs : List Run) (j : ℕ) (r : Run) (x y : ℕ) (part : List A) → j < length runs → get_or runs j r ≡ r → map level part ≡ levels_under level sight (offsets_of_run r) x y
     → length (levels_under level sight (element_of (take j runs)) x y) + length part ≤ length (element_of runs)
 room_for_run level sight runs j r x y part lt is part-is =
     omega (
       arith,
       length-levels level sight (element_of (take j runs)) x y,
-      length-levels level sight (offsets_of r) x y,
+      length-levels level sight (offsets_of_run r) x y,
       ap length part-is,
       length-map part level,
       element_size runs j r lt is,
       length-offsets (start_offset r) (suc (r.count - 1)),
     )
 
-pub few_after : {A : Type 0} (level : A → ℕ) (sight : Sight A) (runs : List Run) (j : ℕ) (r : Run) (x y : ℕ) (part : List ℕ) → j < length runs → get_or runs j r ≡ r → part ≡ levels_under level sight (offsets_of r) x y
+pub few_after : {A : Type 0} (level : A → ℕ) (sight : Sight A) (runs : List Run) (j : ℕ) (r : Run) (x y : ℕ) (part : List ℕ) → j < length runs → get_or runs j r ≡ r → part ≡ levels_under level sight (offsets_of_run r) x y
     → length (part ++ levels_under level sight (element_of (drop (j + 1) runs)) x y) ≤ length (element_of runs)
 few_after level sight runs j r x y part lt is part-is =
     omega (
       arith,
       length-append part (levels_under level sight (element_of (drop (j + 1) runs)) x y),
       length-levels level sight (element_of (drop (j + 1) runs)) x y,
-      length-levels level sight (offsets_of r) x y,
+      length-levels level sight (offsets_of_run r) x y,
       ap length part-is,
       element_size runs j r lt is,
       length-offsets (start_offset r) (suc (r.count - 1)),

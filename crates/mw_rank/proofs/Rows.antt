@@ -5,13 +5,13 @@ use Rattle.std.proofs.lemmas.Nat.{mul-add-lt}
 use Rattle.std.proofs.lemmas.List.{get_or_append_left, get_or-append_right, map-id}
 use Rattle.std.proofs.lemmas.Option.{slice_get-get_or}
 use Rattle.std.proofs.Math.Nat.{add-sub_cancel_left}
-use Rattle.mw_model.specs.declared.places.Offset.{Offset}
-use Rattle.mw_model.specs.declared.places.Rect.{Rect}
+use Rattle.mw_model.specs.declared.offsets.Offset.{Offset}
+use Rattle.mw_model.specs.declared.offsets.Rect.{Rect}
 use Rattle.mw_model.specs.PlanSteps.{ranked}
 use Rattle.mw_model.specs.Rasters.{Raster, raster, cell_at, Sight, seen_under}
 use Rattle.mw_model.specs.Flat.{under, rank}
 use Rattle.mw_model.specs.Pictures.{Picture, IsPicture, sample}
-use Rattle.mw_model.specs.Places.{IsWithin}
+use Rattle.mw_model.specs.Rectangles.{IsWithin}
 use Rattle.mw_model.proofs.ImagePlaces.{sample-redrawn}
 use Rattle.mw_tile.specs.mw_pixel.Images.{raster_of}
 use Rattle.mw_tile.proofs.mw_pixel.Cells.{seen_under-raster_of}

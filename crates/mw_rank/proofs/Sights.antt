@@ -8,7 +8,7 @@ use Rattle.std.proofs.lemmas.List.Elements.{filter_map-append}
 use Rattle.std.proofs.lemmas.Nat.{mul-add-lt}
 use Rattle.std.proofs.lemmas.Option.{slice_get-get_or}
 use Rattle.mw_tile.proofs.mw_pixel.Cells.{cell_at-inside}
-use Rattle.mw_model.specs.declared.places.Offset.{Offset}
+use Rattle.mw_model.specs.declared.offsets.Offset.{Offset}
 use Rattle.mw_model.specs.Rasters.{Sight, seen_under, raster, cell_at}
 use Rattle.mw_rank.specs.Ranks.{levels_under, levels_at}
 use Rattle.mw_rank.specs.Runs.{next_offset, offsets_from}

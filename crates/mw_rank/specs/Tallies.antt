@@ -17,7 +17,7 @@ pub record Tallies (top : ℕ) (h : Histogram) (ns : List ℕ) : Type 0 where
   pub level : h.level ≤ top
 
 -- the histogram has counted some levels, fewer than a counter can count
-pub record HasRoom (top : ℕ) (h : Histogram) : Type 0 where
+pub record HistogramHasRoom (top : ℕ) (h : Histogram) : Type 0 where
   pub levels : List ℕ
   pub tallies : Tallies top h levels
   pub few : length levels < 65535
@@ -29,7 +29,7 @@ pub record HasRoomFor (top : ℕ) (h : Histogram) (n : ℕ) : Type 0 where
   pub few : length levels + n < 65536
 
 -- the histogram has counted these levels, and perhaps others
-pub record Holds (top : ℕ) (h : Histogram) (ns : List ℕ) : Type 0 where
+pub record HistogramHolds (top : ℕ) (h : Histogram) (ns : List ℕ) : Type 0 where
   pub others : List ℕ
   pub tallies : Tallies top h (ns ++ others)
   pub few : length (ns ++ others) < 65536

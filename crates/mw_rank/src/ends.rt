@@ -4,7 +4,7 @@ ghost use Rattle.std.specs.Prelude.{◌≡◌, ℕ, pos, ◌+ℤ◌, ◌-ℤ◌,
 ghost use Rattle.mw_model.specs.declared.limits.TheConstants.{FAR_LIMIT};
 ghost use Rattle.mw_model.specs.Windows.{seen_at};
 ghost use Rattle.mw_rank.specs.Ends.{levels_left, levels_entered, HasEnds, AreEnds, AddsEnds};
-ghost use Rattle.mw_rank.specs.Tallies.{Tallies, Holds};
+ghost use Rattle.mw_rank.specs.Tallies.{Tallies, HistogramHolds};
 
 use crate::histogram::Histogram;
 use crate::runs::more_of;
@@ -159,7 +159,7 @@ pub(crate) fn exchange_ends<P: Pixel>(
     i: usize,
 )
     requires inside { (n : ℕ) × (i < n) × HasEnds samples.now n ends.now }
-    requires held { Holds P.top_level histogram.old (levels_left P.level P.TOP samples.now ends.now i) }
+    requires held { HistogramHolds P.top_level histogram.old (levels_left P.level P.TOP samples.now ends.now i) }
     ensures { (ns : List ℕ) → Tallies P.top_level histogram.old (levels_left P.level P.TOP samples.now ends.now i ++ ns) → Tallies P.top_level histogram.new (levels_entered P.level P.TOP samples.now ends.now i ++ ns) }
 {
     for e in ends {

@@ -3,7 +3,7 @@
 //! walk has a test for each counter. The level mostly moves a few levels, which are taken without a look at how far it came.
 ghost use Rattle.std.specs.Prelude.{◌≡◌, ℕ, ◌+◌, ◌<◌, ◌≤◌, ◌⊎◌, List, [], ◌∷◌, length, cond, nat_lt, IfOk};
 ghost use Rattle.mw_model.specs.PlanSteps.{ranked};
-ghost use Rattle.mw_rank.specs.Tallies.{count_under, Tallies, HasRoom, Holds};
+ghost use Rattle.mw_rank.specs.Tallies.{count_under, Tallies, HistogramHasRoom, HistogramHolds};
 
 use mw_model::NoMemory;
 use mw_tile::pixel::Pixel;
@@ -44,7 +44,7 @@ impl Histogram {
     /// Counts a level.
     #[inline(always)]
     pub(crate) fn add(&mut self, s: u16)
-        requires { (top : ℕ) × HasRoom top self.old × (s ≤ top) }
+        requires { (top : ℕ) × HistogramHasRoom top self.old × (s ≤ top) }
         ensures { (top : ℕ) (ns : List ℕ) → s ≤ top → Tallies top self.old ns → Tallies top self.new (s ∷ ns) }
     {
         let at = s as usize;
@@ -58,7 +58,7 @@ impl Histogram {
     /// Takes back a level that was counted.
     #[inline(always)]
     pub(crate) fn remove(&mut self, s: u16)
-        requires { (top : ℕ) × Holds top self.old (s ∷ []) }
+        requires { (top : ℕ) × HistogramHolds top self.old (s ∷ []) }
         ensures { (top : ℕ) (ns : List ℕ) → Tallies top self.old (s ∷ ns) → Tallies top self.new ns }
     {
         let at = s as usize;
@@ -80,7 +80,7 @@ impl Histogram {
     /// Takes back one level and counts another.
     #[inline(always)]
     pub(crate) fn exchange(&mut self, left: u16, entered: u16)
-        requires { (top : ℕ) × Holds top self.old (left ∷ []) × (entered ≤ top) }
+        requires { (top : ℕ) × HistogramHolds top self.old (left ∷ []) × (entered ≤ top) }
         ensures { (top : ℕ) (ns : List ℕ) → entered ≤ top → Tallies top self.old (left ∷ ns) → Tallies top self.new (entered ∷ ns) }
     {
         let less = self.one_below(left);
@@ -102,7 +102,7 @@ impl Histogram {
     /// How many levels were counted from that one on and below the other.
     #[inline(always)]
     fn counted(&self, from: u32, to: u32) -> u32
-        requires held { (top : ℕ) × Holds top self.now [] }
+        requires held { (top : ℕ) × HistogramHolds top self.now [] }
         requires order { from ≤ to }
         requires within { to ≤ length self.now.counts.items }
         ensures { (top : ℕ) (ns : List ℕ) → Tallies top self.now ns → result + count_under from ns ≡ count_under to ns }
@@ -117,7 +117,7 @@ impl Histogram {
     /// Leaps down while n levels or more are below.
     #[inline(always)]
     fn leap_down(&mut self, n: u32)
-        requires { (top : ℕ) × Holds top self.old [] }
+        requires { (top : ℕ) × HistogramHolds top self.old [] }
         ensures tallies { (top : ℕ) (ns : List ℕ) → Tallies top self.old ns → Tallies top self.new ns }
         ensures held { self.new.held ≡ self.old.held }
         ensures many { n ≤ self.old.below → n ≤ self.new.below }
@@ -137,7 +137,7 @@ impl Histogram {
     #[inline(always)]
     fn leap_up(&mut self, n: u32)
         requires few { self.old.below < n }
-        requires held { (top : ℕ) × Holds top self.old [] }
+        requires held { (top : ℕ) × HistogramHolds top self.old [] }
         ensures tallies { (top : ℕ) (ns : List ℕ) → Tallies top self.old ns → Tallies top self.new ns }
         ensures held { self.new.held ≡ self.old.held }
         ensures few { self.new.below < n }
@@ -156,7 +156,7 @@ impl Histogram {
     /// Moves down until fewer than n levels are below, but not below `end`.
     #[inline(always)]
     fn lower(&mut self, n: u32, end: u32)
-        requires held { (top : ℕ) × Holds top self.old [] }
+        requires held { (top : ℕ) × HistogramHolds top self.old [] }
         ensures tallies { (top : ℕ) (ns : List ℕ) → Tallies top self.old ns → Tallies top self.new ns }
         ensures held { self.new.held ≡ self.old.held }
         ensures few { (self.new.below < n) ⊎ (self.new.level ≤ end) }
@@ -177,7 +177,7 @@ impl Histogram {
     fn raise(&mut self, n: u32, end: u32)
         requires within { n ≤ self.old.held }
         requires few { self.old.below < n }
-        requires held { (top : ℕ) × Holds top self.old [] }
+        requires held { (top : ℕ) × HistogramHolds top self.old [] }
         ensures tallies { (top : ℕ) (ns : List ℕ) → Tallies top self.old ns → Tallies top self.new ns }
         ensures held { self.new.held ≡ self.old.held }
         ensures few { self.new.below < n }
@@ -197,7 +197,7 @@ impl Histogram {
     #[inline(always)]
     fn step_down(&mut self, n: u32)
         requires some { 1 ≤ n }
-        requires held { (top : ℕ) × Holds top self.old [] }
+        requires held { (top : ℕ) × HistogramHolds top self.old [] }
         ensures tallies { (top : ℕ) (ns : List ℕ) → Tallies top self.old ns → Tallies top self.new ns }
         ensures held { self.new.held ≡ self.old.held }
         ensures enough { (top : ℕ) (ns : List ℕ) → Tallies top self.old ns → n ≤ self.old.below → n ≤ count_under (self.new.level + 1) ns }
@@ -220,7 +220,7 @@ impl Histogram {
     fn step_up(&mut self, n: u32)
         requires within { n ≤ self.old.held }
         requires few { self.old.below < n }
-        requires held { (top : ℕ) × Holds top self.old [] }
+        requires held { (top : ℕ) × HistogramHolds top self.old [] }
         ensures tallies { (top : ℕ) (ns : List ℕ) → Tallies top self.old ns → Tallies top self.new ns }
         ensures held { self.new.held ≡ self.old.held }
         ensures few { self.new.below < n }
@@ -243,7 +243,7 @@ impl Histogram {
     fn go_down(&mut self, n: u32)
         requires some { 1 ≤ n }
         requires many { n ≤ self.old.below }
-        requires held { (top : ℕ) × Holds top self.old [] }
+        requires held { (top : ℕ) × HistogramHolds top self.old [] }
         ensures tallies { (top : ℕ) (ns : List ℕ) → Tallies top self.old ns → Tallies top self.new ns }
         ensures held { self.new.held ≡ self.old.held }
         ensures few { self.new.below < n }
@@ -260,7 +260,7 @@ impl Histogram {
     fn go_up(&mut self, n: u32)
         requires within { n ≤ self.old.held }
         requires few { self.old.below < n }
-        requires held { (top : ℕ) × Holds top self.old [] }
+        requires held { (top : ℕ) × HistogramHolds top self.old [] }
         ensures tallies { (top : ℕ) (ns : List ℕ) → Tallies top self.old ns → Tallies top self.new ns }
         ensures few { self.new.below < n }
         ensures enough { (top : ℕ) (ns : List ℕ) → Tallies top self.old ns → n ≤ count_under (self.new.level + 1) ns }
@@ -278,7 +278,7 @@ impl Histogram {
     fn go_to(&mut self, n: u32)
         requires some { 1 ≤ n }
         requires within { n ≤ self.old.held }
-        requires held { (top : ℕ) × Holds top self.old [] }
+        requires held { (top : ℕ) × HistogramHolds top self.old [] }
         ensures tallies { (top : ℕ) (ns : List ℕ) → Tallies top self.old ns → Tallies top self.new ns }
         ensures few { self.new.below < n }
         ensures enough { (top : ℕ) (ns : List ℕ) → Tallies top self.old ns → n ≤ count_under (self.new.level + 1) ns }
@@ -299,7 +299,7 @@ impl Histogram {
     /// Of the levels in rising order number k, or the last where there are fewer; 0 where there is none.
     #[inline(always)]
     pub(crate) fn select(&mut self, k: u32) -> u16
-        requires { (top : ℕ) × Holds top self.old [] }
+        requires { (top : ℕ) × HistogramHolds top self.old [] }
         ensures tallies { (top : ℕ) (ns : List ℕ) → Tallies top self.old ns → Tallies top self.new ns }
         ensures level { (top : ℕ) (ns : List ℕ) → Tallies top self.old ns → result ≡ ranked k ns }
         ensures small { (top : ℕ) (ns : List ℕ) → Tallies top self.old ns → result ≤ top }

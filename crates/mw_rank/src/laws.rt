@@ -1,10 +1,10 @@
 //! A rank of what is seen is what the operator says.
 ghost use Rattle.std.specs.Prelude.{◌≡◌, ℕ, ◌+◌, ◌*◌, ◌<◌, List, Some, slice_get};
-ghost use Rattle.mw_model.specs.declared.places.Offset.{Offset};
-ghost use Rattle.mw_model.specs.declared.places.Rect.{Rect};
+ghost use Rattle.mw_model.specs.declared.offsets.Offset.{Offset};
+ghost use Rattle.mw_model.specs.declared.offsets.Rect.{Rect};
 ghost use Rattle.mw_model.specs.Flat.{rank};
 ghost use Rattle.mw_model.specs.Pictures.{Picture, IsPicture, sample};
-ghost use Rattle.mw_model.specs.Places.{IsWithin};
+ghost use Rattle.mw_model.specs.Rectangles.{IsWithin};
 ghost use Rattle.mw_model.specs.Rasters.{Raster, cell_at};
 ghost use Rattle.mw_tile.specs.mw_pixel.Images.{raster_of};
 ghost use Rattle.mw_rank.specs.Ranks.{IsRank};

@@ -10,7 +10,7 @@ ghost use Rattle.mw_tile.specs.Windows.{IsWindow};
 ghost use Rattle.mw_rank.specs.Ends.{AreEnds};
 ghost use Rattle.mw_rank.specs.Ranks.{levels_under, levels_at, IsRank, GainsRow, HasRows};
 ghost use Rattle.mw_rank.specs.Runs.{element_of};
-ghost use Rattle.mw_rank.specs.Tallies.{Tallies, HasRoom, HasRoomFor, Holds};
+ghost use Rattle.mw_rank.specs.Tallies.{Tallies, HistogramHasRoom, HasRoomFor, HistogramHolds};
 
 use crate::ends::{Columns, Ends, exchange_ends, inner_columns, row_ends};
 use crate::histogram::Histogram;
@@ -55,7 +55,7 @@ fn level_at<P: Grey>(window: &Window<P>, offset: Offset, x: u64, y: u64) -> Opti
 fn enter<P: Grey>(histogram: &mut Histogram, window: &Window<P>, offset: Offset, x: u64, y: u64)
     requires near { x ≤ FAR_LIMIT }
     requires high { y ≤ FAR_LIMIT }
-    requires room { HasRoom P.top_level histogram.old }
+    requires room { HistogramHasRoom P.top_level histogram.old }
     ensures { (ns : List ℕ) → Tallies P.top_level histogram.old ns → Tallies P.top_level histogram.new (levels_at P.level (seen_at window.now) offset x y ++ ns) }
 {
     if let Some(s) = level_at(window, offset, x, y) {
@@ -68,7 +68,7 @@ fn enter<P: Grey>(histogram: &mut Histogram, window: &Window<P>, offset: Offset,
 fn leave<P: Grey>(histogram: &mut Histogram, window: &Window<P>, offset: Offset, x: u64, y: u64)
     requires near { x ≤ FAR_LIMIT }
     requires high { y ≤ FAR_LIMIT }
-    requires held { Holds P.top_level histogram.old (levels_at P.level (seen_at window.now) offset x y) }
+    requires held { HistogramHolds P.top_level histogram.old (levels_at P.level (seen_at window.now) offset x y) }
     ensures { (ns : List ℕ) → Tallies P.top_level histogram.old (levels_at P.level (seen_at window.now) offset x y ++ ns) → Tallies P.top_level histogram.new ns }
 {
     if let Some(s) = level_at(window, offset, x, y) {
@@ -88,7 +88,7 @@ fn enter_part<P: Pixel>(histogram: &mut Histogram, samples: &[P])
 
 /// Takes back samples that were counted.
 fn leave_part<P: Pixel>(histogram: &mut Histogram, samples: &[P])
-    requires { Holds P.top_level histogram.old (map P.level samples.now) }
+    requires { HistogramHolds P.top_level histogram.old (map P.level samples.now) }
     ensures { (ns : List ℕ) → Tallies P.top_level histogram.old (map P.level samples.now ++ ns) → Tallies P.top_level histogram.new ns }
 {
     for sample in samples {

@@ -1,11 +1,11 @@
 //! What a window shows of an element's runs.
 ghost use Rattle.std.specs.Prelude.{◌≡◌, ℕ, ℤ, pos, ◌+ℤ◌, ◌-ℤ◌, ◌<◌, ◌≤◌, map, min, None, MatchOption};
 ghost use Rattle.mw_model.specs.declared.limits.TheConstants.{FAR_LIMIT};
-ghost use Rattle.mw_model.specs.Places.{nonnegative};
+ghost use Rattle.mw_model.specs.Rectangles.{nonnegative};
 ghost use Rattle.mw_model.specs.Rasters.{raster, cell_at};
 ghost use Rattle.mw_model.specs.Windows.{seen_at};
 ghost use Rattle.mw_rank.specs.Ranks.{levels_under};
-ghost use Rattle.mw_rank.specs.Runs.{offsets_of};
+ghost use Rattle.mw_rank.specs.Runs.{offsets_of_run};
 
 use crate::runs::more_of;
 use mw_element_runs::{Run, place_of};
@@ -39,7 +39,7 @@ fn clamped(column: i64, width: u32) -> usize
 pub(crate) fn seen_part<P: Grey>(window: &Window<P>, run: Run, x: u64, y: u64) -> &[P]
     requires near { x ≤ FAR_LIMIT }
     requires high { y ≤ FAR_LIMIT }
-    ensures { map P.level result.now ≡ levels_under P.level (seen_at window.now) (offsets_of run) x y }
+    ensures { map P.level result.now ≡ levels_under P.level (seen_at window.now) (offsets_of_run run) x y }
 {
     let place = window.place();
     let all = window.samples();

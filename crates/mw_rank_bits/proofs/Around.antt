@@ -8,9 +8,9 @@ use Rattle.std.proofs.lemmas.Int.{ints}
 use Rattle.std.proofs.lemmas.List.Sums.{sum_by-cons}
 use Rattle.std.proofs.lemmas.Nat.{div-mul-add, mod-mul-add}
 use Rattle.mw_model.proofs.mw_facts.Alls.{all-get_or}
-use Rattle.mw_model.specs.declared.places.Offset.{Offset}
-use Rattle.mw_model.specs.declared.places.Rect.{Rect}
-use Rattle.mw_model.specs.Places.{nonnegative}
+use Rattle.mw_model.specs.declared.offsets.Offset.{Offset}
+use Rattle.mw_model.specs.declared.offsets.Rect.{Rect}
+use Rattle.mw_model.specs.Rectangles.{nonnegative}
 use Rattle.mw_model.proofs.Nonnegative.{nonnegative_is}
 use Rattle.mw_model.specs.Rasters.{raster, cell_at}
 use Rattle.mw_model.specs.Windows.{View, seen_at}
@@ -18,12 +18,12 @@ use Rattle.mw_bits.specs.mw_lane.Shifted.{merge_at}
 use Rattle.mw_bits.specs.mw_pixel_words.Packed.{bit_of}
 use Rattle.mw_bits.specs.mw_element_runs.declared.runs.Run.{Run}
 use Rattle.mw_bits.specs.mw_element_runs.declared.runs.Extent.{Extent}
-use Rattle.mw_bits.specs.mw_element_runs.Runs.{start_of, IsInside, IsRun}
-use Rattle.mw_bits.specs.Layouts.{IsNear}
+use Rattle.mw_bits.specs.mw_element_runs.Runs.{start_of, RunIsInside, IsRun}
+use Rattle.mw_bits.specs.Layouts.{ExtentIsNear}
 use Rattle.mw_rank_bits.specs.Elements.{single_run, lack_at, lacks_under}
 use Rattle.mw_rank_bits.specs.Moves.{place_in}
 use Rattle.mw_rank_bits.specs.Numbers.{bits_at}
-use Rattle.mw_rank_bits.specs.Walks.{AreMoves, HasRoom}
+use Rattle.mw_rank_bits.specs.Walks.{AreMoves, WordsHaveRoom}
 
 pub sum_mapped : {A : Type 0} (f : ℕ → ℕ) (g : A → ℕ) (xs : List A) → sum_by f (map g xs) ≡ sum_by (λ x. f (g x)) xs
 sum_mapped f g [] = refl
@@ -49,7 +49,7 @@ pub record Stands (e : Extent) (r : Run) (down across : ℕ) : Type 0 where
   pub row : down ≤ nonnegative (e.bottom -ℤ e.top)
   pub column : across ≤ nonnegative (e.right -ℤ e.left)
 
-pub run_stands : (e : Extent) (r : Run) → IsInside e r → Stands e r (nonnegative (r.dy -ℤ e.top)) (nonnegative (r.dx -ℤ e.left))
+pub run_stands : (e : Extent) (r : Run) → RunIsInside e r → Stands e r (nonnegative (r.dy -ℤ e.top)) (nonnegative (r.dx -ℤ e.left))
 run_stands e r inside =
     let dy-is = nonnegative_is (r.dy -ℤ e.top) in
     let dx-is = nonnegative_is (r.dx -ℤ e.left) in
@@ -63,7 +63,7 @@ run_stands e r inside =
     }
 
 -- a place of rows of an extent's columns is a place of wider rows
-pub placed : (e : Extent) (columns wide : ℕ) (r : Run) → IsInside e r → columns ≡ nonnegative (e.right -ℤ e.left) + 1 → place_in columns wide (start_of e columns r) ≡ start_of e wide r
+pub placed : (e : Extent) (columns wide : ℕ) (r : Run) → RunIsInside e r → columns ≡ nonnegative (e.right -ℤ e.left) + 1 → place_in columns wide (start_of e columns r) ≡ start_of e wide r
 placed e columns wide r inside columns-is =
     let stands = run_stands e r inside in
     let down = nonnegative (r.dy -ℤ e.top) in
@@ -71,14 +71,14 @@ placed e columns wide r inside columns-is =
     let lt : across < columns = omega (arith, stands.column, columns-is) in
     ap (λ (t : ℕ). t * wide + start_of e columns r % columns) (div-mul-add down columns across lt) ∙ ap (λ (t : ℕ). down * wide + t) (mod-mul-add down columns across lt)
 
-pub start_below : (e : Extent) (wide rows columns : ℕ) (r : Run) → IsInside e r → rows ≡ nonnegative (e.bottom -ℤ e.top) → columns ≡ nonnegative (e.right -ℤ e.left) → start_of e wide r < rows * wide + (columns + 1)
+pub start_below : (e : Extent) (wide rows columns : ℕ) (r : Run) → RunIsInside e r → rows ≡ nonnegative (e.bottom -ℤ e.top) → columns ≡ nonnegative (e.right -ℤ e.left) → start_of e wide r < rows * wide + (columns + 1)
 start_below e wide rows columns r inside rows-is columns-is =
     let stands = run_stands e r inside in
     let down : nonnegative (r.dy -ℤ e.top) ≤ rows = omega (arith, stands.row, rows-is) in
     let most = mul-le-mul_right wide down in
     omega (arith, most, stands.column, columns-is)
 
-pub near_few : (e : Extent) → IsNear e → (nonnegative (e.bottom -ℤ e.top) ≤ 1023) × (nonnegative (e.right -ℤ e.left) ≤ 1023)
+pub near_few : (e : Extent) → ExtentIsNear e → (nonnegative (e.bottom -ℤ e.top) ≤ 1023) × (nonnegative (e.right -ℤ e.left) ≤ 1023)
 near_few e near =
     let down = nonnegative_is (e.bottom -ℤ e.top) in
     let across = nonnegative_is (e.right -ℤ e.left) in
@@ -88,7 +88,7 @@ near_few e near =
     let on = near.columns.ordered in
     (omega (arith, ints, down, rows, up), omega (arith, ints, across, columns, on))
 
-pub start_fits : (e : Extent) (wide : ℕ) (r : Run) → IsInside e r → IsNear e → wide ≤ 2 ^ 40 → start_of e wide r < 2 ^ 64
+pub start_fits : (e : Extent) (wide : ℕ) (r : Run) → RunIsInside e r → ExtentIsNear e → wide ≤ 2 ^ 40 → start_of e wide r < 2 ^ 64
 start_fits e wide r inside near narrow =
     let few = near_few e near in
     let below = start_below e wide (nonnegative (e.bottom -ℤ e.top)) (nonnegative (e.right -ℤ e.left)) r inside refl refl in
@@ -96,7 +96,7 @@ start_fits e wide r inside near narrow =
     omega (arith, below, most, few.1)
 
 -- the places of runs are what an element sees, and change as the code has counted
-pub moves_are : (e : Extent) (columns wide : ℕ) (runs : List Run) (seen places entered left : List ℕ) → AllByRecursion (IsInside e) runs → columns ≡ nonnegative (e.right -ℤ e.left) + 1
+pub moves_are : (e : Extent) (columns wide : ℕ) (runs : List Run) (seen places entered left : List ℕ) → AllByRecursion (RunIsInside e) runs → columns ≡ nonnegative (e.right -ℤ e.left) + 1
     → seen ≡ map (start_of e wide) runs → places ≡ map (start_of e columns) runs
     → ((f : ℕ → ℕ) → sum_by f entered + sum_by (λ t. f (place_in columns wide t)) places ≡ sum_by f left + sum_by (λ t. f (place_in columns wide t + wide)) places)
     → ((f : ℕ → ℕ) → sum_by f left ≤ sum_by (λ t. f (place_in columns wide t)) places) → AreMoves wide seen entered left
@@ -105,7 +105,7 @@ moves_are e columns wide runs seen places entered left all columns-is seen-is pl
     λ f.
     ap (sum_by (λ t. f (place_in columns wide t))) places-is
     ∙ sum_mapped (λ t. f (place_in columns wide t)) (start_of e columns) runs
-    ∙ sums_all (IsInside e) (λ r. f (place_in columns wide (start_of e columns r))) (λ r. f (start_of e wide r)) runs (λ r inside. ap f (placed e columns wide r inside columns-is)) all
+    ∙ sums_all (RunIsInside e) (λ r. f (place_in columns wide (start_of e columns r))) (λ r. f (start_of e wide r)) runs (λ r inside. ap f (placed e columns wide r inside columns-is)) all
     ∙ sym (sum_mapped f (start_of e wide) runs)
     ∙ ap (sum_by f) (sym seen-is) in
     record {
@@ -114,7 +114,7 @@ moves_are e columns wide runs seen places entered left all columns-is seen-is pl
     }
 
 -- places below a limit can be read, where all below it can
-pub limit_room : (cells places : List ℕ) (limit at : ℕ) → ((s : ℕ) → s < limit → s / 64 + at + 3 ≤ length cells) → AllByRecursion (λ (s : ℕ). s < limit) places → HasRoom cells places at
+pub limit_room : (cells places : List ℕ) (limit at : ℕ) → ((s : ℕ) → s < limit → s / 64 + at + 3 ≤ length cells) → AllByRecursion (λ (s : ℕ). s < limit) places → WordsHaveRoom cells places at
 limit_room cells places limit at each all = λ k lt. each (get_or places k 0) (all-get_or (λ (s : ℕ). s < limit) places k 0 lt all)
 
 -- a bit that was turned round
@@ -129,7 +129,7 @@ pub record HasLacks (w : View ℕ) (tile : Rect) (e : Extent) (wide high : ℕ) 
   pub high_is : high ≡ tile.height + nonnegative (e.bottom -ℤ e.top)
   pub cells_are : (x y : ℕ) → x < 64 * wide → y < high → bit_of cells (y * (64 * wide) + x) ≡ 1 - merge_at min 1 (cell_at (raster w.place.width w.place.height w.cells) (column +ℤ pos x) (row +ℤ pos y))
 
-run_lack : (w : View ℕ) (tile : Rect) (e : Extent) (wide high : ℕ) (column row : ℤ) (cells : List ℕ) (x y : ℕ) → HasLacks w tile e wide high column row cells → x + nonnegative (e.right -ℤ e.left) < 64 * wide → y < tile.height → (r : Run) → IsInside e r
+run_lack : (w : View ℕ) (tile : Rect) (e : Extent) (wide high : ℕ) (column row : ℤ) (cells : List ℕ) (x y : ℕ) → HasLacks w tile e wide high column row cells → x + nonnegative (e.right -ℤ e.left) < 64 * wide → y < tile.height → (r : Run) → RunIsInside e r
     → bit_of cells (start_of e (64 * wide) r + (y * (64 * wide) + x)) ≡ lack_at (seen_at w (pos (tile.x + x) +ℤ r.dx) (pos (tile.y + y) +ℤ r.dy))
 run_lack w tile e wide high column row cells x y laid fits down r inside =
     let stands = run_stands e r inside in
@@ -148,12 +148,12 @@ run_lack w tile e wide high column row cells x y laid fits down r inside =
     ∙ lack_merged (seen_at w (pos (tile.x + x) +ℤ r.dx) (pos (tile.y + y) +ℤ r.dy))
 
 pub runs_lack : (w : View ℕ) (tile : Rect) (e : Extent) (wide high : ℕ) (column row : ℤ) (cells seen : List ℕ) (runs : List Run) (x y : ℕ) → HasLacks w tile e wide high column row cells → x + nonnegative (e.right -ℤ e.left) < 64 * wide → y < tile.height
-    → seen ≡ map (start_of e (64 * wide)) runs → AllByRecursion (IsInside e) runs → bits_at cells seen (y * (64 * wide) + x) ≡ lacks_under (seen_at w) runs (tile.x + x) (tile.y + y)
+    → seen ≡ map (start_of e (64 * wide)) runs → AllByRecursion (RunIsInside e) runs → bits_at cells seen (y * (64 * wide) + x) ≡ lacks_under (seen_at w) runs (tile.x + x) (tile.y + y)
 runs_lack w tile e wide high column row cells seen runs x y laid fits down seen-is all =
     let q = y * (64 * wide) + x in
     ap (λ (t : List ℕ). bits_at cells t q) seen-is
     ∙ sum_mapped (λ (s : ℕ). bit_of cells (s + q)) (start_of e (64 * wide)) runs
-    ∙ sums_all (IsInside e) (λ (r : Run). bit_of cells (start_of e (64 * wide) r + q)) (λ (r : Run). lack_at (seen_at w (pos (tile.x + x) +ℤ r.dx) (pos (tile.y + y) +ℤ r.dy))) runs (run_lack w tile e wide high column row cells x y laid fits down) all
+    ∙ sums_all (RunIsInside e) (λ (r : Run). bit_of cells (start_of e (64 * wide) r + q)) (λ (r : Run). lack_at (seen_at w (pos (tile.x + x) +ℤ r.dx) (pos (tile.y + y) +ℤ r.dy))) runs (run_lack w tile e wide high column row cells x y laid fits down) all
 
 -- fewer than a number, by a counter that started so much below its half
 pub few_are : (half start number z : ℕ) → start ≡ half - number → number ≤ half → ◌≡◌ {A = ℕ} (cond (nat_lt (start + z) half) 1 0) (cond (nat_lt z number) 1 0)

@@ -9,7 +9,7 @@ use Rattle.std.proofs.lemmas.Nat.{mod-pow-add, mod-mul-add}
 use Rattle.mw_bits.specs.mw_pixel_words.Packed.{bit_of}
 use Rattle.mw_bits.proofs.mw_pixel_words.Bits.{bit_of-lt}
 use Rattle.mw_rank_bits.specs.Numbers.{bits_at, number_at, HasAdded}
-use Rattle.mw_rank_bits.specs.Walks.{is_below, AreMoves, HasRoom, HasColumn}
+use Rattle.mw_rank_bits.specs.Walks.{is_below, AreMoves, WordsHaveRoom, HasColumn}
 
 -- a digit as it is, and as what it lacks of 1
 abbrev pub as_is : ℕ → ℕ
@@ -176,7 +176,7 @@ pub column_none : (value : ℕ → ℕ → ℕ) (wide j : ℕ) (out : List ℕ) 
 column_none value wide j out = record { done = λ q y lt none. absurd (omega arith); others = λ p away. refl }
 
 -- places that can be read so many words on can be read fewer words on
-pub room_less : (cells places : List ℕ) (more at : ℕ) → at ≤ more → HasRoom cells places more → HasRoom cells places at
+pub room_less : (cells places : List ℕ) (more at : ℕ) → at ≤ more → WordsHaveRoom cells places more → WordsHaveRoom cells places at
 room_less cells places more at le room = λ k lt. let there = room k lt in omega arith
 
 -- whether a number is below half of what its digits hold
@@ -189,5 +189,5 @@ pub moves_same : (wide : ℕ) (seen entered left s e l : List ℕ) → seen ≡ 
 moves_same wide seen entered left s e l seen-is entered-is left-is moves =
     subst (λ (t : List ℕ). AreMoves wide t entered left) (sym seen-is) (subst (λ (t : List ℕ). AreMoves wide s t left) (sym entered-is) (subst (λ (t : List ℕ). AreMoves wide s e t) (sym left-is) moves))
 
-pub room_same : (cells places others : List ℕ) (at : ℕ) → places ≡ others → HasRoom cells others at → HasRoom cells places at
-room_same cells places others at is room = subst (λ (t : List ℕ). HasRoom cells t at) (sym is) room
+pub room_same : (cells places others : List ℕ) (at : ℕ) → places ≡ others → WordsHaveRoom cells others at → WordsHaveRoom cells places at
+room_same cells places others at is room = subst (λ (t : List ℕ). WordsHaveRoom cells t at) (sym is) room

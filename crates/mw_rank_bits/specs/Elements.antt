@@ -1,8 +1,8 @@
 -- Offsets of an element, one by one, and what is seen of a set under them.
 use Rattle.std.specs.Prelude.{◌≡◌, ℕ, ◌+◌, ◌-◌, ◌*◌, ◌<◌, List, length, Option, Some, None, pos, ◌+ℤ◌, min, slice_get, slice_index}
 use Rattle.std.specs.List.{sum_by}
-use Rattle.mw_model.specs.declared.places.Offset.{Offset}
-use Rattle.mw_model.specs.declared.places.Rect.{Rect}
+use Rattle.mw_model.specs.declared.offsets.Offset.{Offset}
+use Rattle.mw_model.specs.declared.offsets.Rect.{Rect}
 use Rattle.mw_model.specs.PlanSteps.{ranked}
 use Rattle.mw_model.specs.Rasters.{Raster, Sight, seen_under}
 use Rattle.mw_bits.specs.mw_element_runs.declared.runs.Run.{Run}

@@ -10,8 +10,8 @@ pub record AreMoves (wide : ℕ) (seen entered left : List ℕ) : Type 0 where
   pub part : (f : ℕ → ℕ) → sum_by f left ≤ sum_by f seen
 
 -- 128 bits can be read at each of the places, so many words on
-abbrev pub HasRoom : List ℕ → List ℕ → ℕ → Type 0
-HasRoom cells places at = (k : ℕ) → k < length places → slice_index places k / 64 + at + 3 ≤ length cells
+abbrev pub WordsHaveRoom : List ℕ → List ℕ → ℕ → Type 0
+WordsHaveRoom cells places at = (k : ℕ) → k < length places → slice_index places k / 64 + at + 3 ≤ length cells
 
 -- whether a number, and what is seen at a place, are together below half of what so many digits hold
 abbrev pub is_below : ℕ → ℕ → List ℕ → List ℕ → ℕ → ℕ

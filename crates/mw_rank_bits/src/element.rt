@@ -1,9 +1,9 @@
 //! An element's offsets as places of rows of bits.
 ghost use Rattle.std.specs.Prelude.{◌≡◌, ℕ, ◌+◌, ◌-◌, ◌*◌, ◌<◌, ◌≤◌, ◌^◌, length, map, IfOk, ◌-ℤ◌, ◌≤ℤ◌};
 ghost use Rattle.std.specs.List.{AllByRecursion};
-ghost use Rattle.mw_model.specs.Places.{nonnegative};
-ghost use Rattle.mw_bits.specs.mw_element_runs.Runs.{start_of, IsInside};
-ghost use Rattle.mw_bits.specs.Layouts.{IsNear};
+ghost use Rattle.mw_model.specs.Rectangles.{nonnegative};
+ghost use Rattle.mw_bits.specs.mw_element_runs.Runs.{start_of, RunIsInside};
+ghost use Rattle.mw_bits.specs.Layouts.{ExtentIsNear};
 ghost use Rattle.mw_rank_bits.specs.Elements.{single_run};
 ghost use Rattle.mw_rank_bits.specs.Walks.{AreMoves};
 
@@ -44,8 +44,8 @@ fn places_of(
     extent: Extent,
     wide: usize,
 ) -> Result<Vec<usize>, NoMemory>
-    requires inside { AllByRecursion (IsInside extent) runs.now }
-    requires near { IsNear extent }
+    requires inside { AllByRecursion (RunIsInside extent) runs.now }
+    requires near { ExtentIsNear extent }
     requires narrow { wide ≤ 2 ^ 40 }
     ensures { IfOk result (λ v. v.items ≡ map (start_of extent wide) runs.now) }
 {
@@ -63,8 +63,8 @@ pub(crate) fn moves_of(
     extent: Extent,
     wide: usize,
 ) -> Result<Moves, NoMemory>
-    requires inside { AllByRecursion (IsInside extent) runs.now }
-    requires near { IsNear extent }
+    requires inside { AllByRecursion (RunIsInside extent) runs.now }
+    requires near { ExtentIsNear extent }
     requires narrow { wide ≤ 2 ^ 40 }
     ensures seen { IfOk result (λ m. m.seen.items ≡ map (start_of extent wide) runs.now) }
     ensures moves { IfOk result (λ m. AreMoves wide m.seen.items m.changes.entered.items m.changes.left.items) }

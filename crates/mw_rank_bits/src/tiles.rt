@@ -7,10 +7,10 @@ ghost use Rattle.mw_model.specs.Rasters.{raster, cell_at};
 ghost use Rattle.mw_model.specs.Windows.{seen_at};
 ghost use Rattle.mw_bits.specs.mw_lane.Shifted.{merge_at};
 ghost use Rattle.mw_bits.specs.mw_pixel_words.Packed.{bit_of, stride_of, IsPacked};
-ghost use Rattle.mw_bits.specs.mw_element_runs.Runs.{IsInside};
-ghost use Rattle.mw_bits.specs.Layouts.{IsNear};
+ghost use Rattle.mw_bits.specs.mw_element_runs.Runs.{RunIsInside};
+ghost use Rattle.mw_bits.specs.Layouts.{ExtentIsNear};
 ghost use Rattle.mw_rank_bits.specs.Elements.{lacks_under, IsSetRank, IsMet};
-ghost use Rattle.mw_rank_bits.specs.Walks.{is_below, AreMoves, HasRoom};
+ghost use Rattle.mw_rank_bits.specs.Walks.{is_below, AreMoves, WordsHaveRoom};
 
 use crate::costs::{Load, is_small, pays};
 use crate::element::{Moves, least_load, load_of, moves_of, single_runs};
@@ -105,9 +105,9 @@ fn below_words(
     requires few { digits ≤ 17 }
     requires small { rows.start + length moves.now.seen.items < 2 ^ digits }
     requires moves { AreMoves (64 * rows.wide) moves.now.seen.items moves.now.changes.entered.items moves.now.changes.left.items }
-    requires seen { HasRoom cells.now moves.now.seen.items (2 * rows.pairs - 2) }
-    requires left { (y : ℕ) → y + 1 < rows.high → HasRoom cells.now moves.now.changes.left.items (y * rows.wide + (2 * rows.pairs - 2)) }
-    requires entered { (y : ℕ) → y + 1 < rows.high → HasRoom cells.now moves.now.changes.entered.items (y * rows.wide + (2 * rows.pairs - 2)) }
+    requires seen { WordsHaveRoom cells.now moves.now.seen.items (2 * rows.pairs - 2) }
+    requires left { (y : ℕ) → y + 1 < rows.high → WordsHaveRoom cells.now moves.now.changes.left.items (y * rows.wide + (2 * rows.pairs - 2)) }
+    requires entered { (y : ℕ) → y + 1 < rows.high → WordsHaveRoom cells.now moves.now.changes.entered.items (y * rows.wide + (2 * rows.pairs - 2)) }
     requires some { 0 < rows.high }
     requires fits { rows.high * (2 * rows.pairs) < 2 ^ 64 }
     requires rows { rows.high * rows.wide + 2 * rows.pairs < 2 ^ 64 }
@@ -141,8 +141,8 @@ fn few_lacking(
     number: u32,
     tile: Rect,
 ) -> Result<Option<Vec<u64>>, NoMemory>
-    requires inside { AllByRecursion (IsInside extent) runs.now }
-    requires near { IsNear extent }
+    requires inside { AllByRecursion (RunIsInside extent) runs.now }
+    requires near { ExtentIsNear extent }
     requires few { length runs.now < 2 ^ 16 }
     requires number { number ≤ length runs.now + 1 }
     requires some { (0 < tile.width) × (0 < tile.height) }

@@ -3,7 +3,7 @@
 ghost use Rattle.std.specs.Prelude.{◌≡◌, ◌⊎◌, ℕ, cond, nat_lt, ◌+◌, ◌-◌, ◌*◌, ◌/◌, ◌^◌, ◌<◌, ◌≤◌, length, slice_index};
 ghost use Rattle.mw_bits.specs.mw_pixel_words.Packed.{bit_of};
 ghost use Rattle.mw_rank_bits.specs.Numbers.{bits_at, number_at};
-ghost use Rattle.mw_rank_bits.specs.Walks.{is_below, AreMoves, HasRoom, HasColumn};
+ghost use Rattle.mw_rank_bits.specs.Walks.{is_below, AreMoves, WordsHaveRoom, HasColumn};
 
 use crate::counter::{Fewer, More, add_bits};
 use crate::lanes::{all_or_none, load, store, turned};
@@ -51,8 +51,8 @@ fn write_below(planes: &[u64], out: &mut [u64], at: usize)
 /// Goes from what is seen from a word on to what is seen one row further down.
 fn step_down(planes: &mut [u64], cells: &[u64], places: Places, at: usize)
     requires digits { 3 ≤ length planes.old / 2 }
-    requires left { HasRoom cells.now places.left.now at }
-    requires entered { HasRoom cells.now places.entered.now at }
+    requires left { WordsHaveRoom cells.now places.left.now at }
+    requires entered { WordsHaveRoom cells.now places.entered.now at }
     ensures { (start wide q : ℕ) → q < 128 → AreMoves wide places.entry.seen.now places.entry.entered.now places.entry.left.now → start + length places.entry.seen.now < 2 ^ (length planes.old / 2) → number_at (λ (a : ℕ). a) (length planes.old / 2) planes.old q ≡ start + bits_at cells.now places.entry.seen.now (64 * at + q) → number_at (λ (a : ℕ). a) (length planes.old / 2) planes.new q ≡ start + bits_at cells.now places.entry.seen.now (64 * at + q + wide) }
 {
     let _seen = places.seen;
@@ -73,9 +73,9 @@ fn walk_down(
     requires few { length planes.old / 2 ≤ 64 }
     requires small { rows.start + length places.seen.now < 2 ^ (length planes.old / 2) }
     requires moves { AreMoves (64 * rows.wide) places.seen.now places.entered.now places.left.now }
-    requires seen { HasRoom cells.now places.seen.now j }
-    requires left { (y : ℕ) → y + 1 < rows.high → HasRoom cells.now places.left.now (y * rows.wide + j) }
-    requires entered { (y : ℕ) → y + 1 < rows.high → HasRoom cells.now places.entered.now (y * rows.wide + j) }
+    requires seen { WordsHaveRoom cells.now places.seen.now j }
+    requires left { (y : ℕ) → y + 1 < rows.high → WordsHaveRoom cells.now places.left.now (y * rows.wide + j) }
+    requires entered { (y : ℕ) → y + 1 < rows.high → WordsHaveRoom cells.now places.entered.now (y * rows.wide + j) }
     requires inside { j + 2 ≤ 2 * rows.pairs }
     requires some { 0 < rows.high }
     requires room { rows.high * (2 * rows.pairs) ≤ length out.old }
@@ -103,9 +103,9 @@ pub(crate) fn walk_all(
     requires few { length planes.old / 2 ≤ 64 }
     requires small { rows.start + length places.seen.now < 2 ^ (length planes.old / 2) }
     requires moves { AreMoves (64 * rows.wide) places.seen.now places.entered.now places.left.now }
-    requires seen { HasRoom cells.now places.seen.now (2 * rows.pairs - 2) }
-    requires left { (y : ℕ) → y + 1 < rows.high → HasRoom cells.now places.left.now (y * rows.wide + (2 * rows.pairs - 2)) }
-    requires entered { (y : ℕ) → y + 1 < rows.high → HasRoom cells.now places.entered.now (y * rows.wide + (2 * rows.pairs - 2)) }
+    requires seen { WordsHaveRoom cells.now places.seen.now (2 * rows.pairs - 2) }
+    requires left { (y : ℕ) → y + 1 < rows.high → WordsHaveRoom cells.now places.left.now (y * rows.wide + (2 * rows.pairs - 2)) }
+    requires entered { (y : ℕ) → y + 1 < rows.high → WordsHaveRoom cells.now places.entered.now (y * rows.wide + (2 * rows.pairs - 2)) }
     requires some { 0 < rows.high }
     requires room { rows.high * (2 * rows.pairs) ≤ length out.old }
     requires fits { rows.high * rows.wide + 2 * rows.pairs < 2 ^ 64 }

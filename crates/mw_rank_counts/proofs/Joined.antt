@@ -1,8 +1,8 @@
 -- Rows of which the parts were made apart.
 use Rattle.std.proofs.Common.{◌≡◌, ℕ, ◌+◌, ◌-◌, ◌*◌, ◌<◌, ◌≤◌, List, [], ◌++◌, length, get_or, take, drop, ap, sym, arith, ◌∙◌, length-take, length-drop}
 use Rattle.std.proofs.lemmas.List.{get_or-take, get_or-drop}
-use Rattle.mw_model.specs.declared.places.Offset.{Offset}
-use Rattle.mw_model.specs.declared.places.Rect.{Rect}
+use Rattle.mw_model.specs.declared.offsets.Offset.{Offset}
+use Rattle.mw_model.specs.declared.offsets.Rect.{Rect}
 use Rattle.mw_model.specs.PlanSteps.{ranked}
 use Rattle.mw_model.specs.Rasters.{Raster, Sight}
 use Rattle.mw_rank.specs.Ranks.{levels_under, IsRank, GainsRow, HasRows}
@@ -21,7 +21,7 @@ rows_of level k sight element tile items r is ranks = record {
 pub no_columns : {A : Type 0} (level : A → ℕ) (value : ℕ → ℕ → ℕ) (width n : ℕ) (items : List A) → width ≡ 0 → items ≡ [] → HasRows level value width n items
 no_columns level value width n items none is = record { size = ap length is ∙ (let e : 0 ≡ n * 0 = omega arith in e) ∙ ap (λ (w : ℕ). n * w) (sym none); made = λ x j d lt down. absurd (omega arith) }
 
--- the same row of other values that are the same
+-- a row gains by values that are equal to others
 pub gains_as : {A : Type 0} (level : A → ℕ) (value other : ℕ → ℕ) (n : ℕ) (old new : List A) → ((i : ℕ) → i < n → value i ≡ other i) → GainsRow level value n old new → GainsRow level other n old new
 gains_as level value other n old new same t = record { size = t.size; kept = t.kept; made = λ x d lt. t.made x d lt ∙ same x lt }
 

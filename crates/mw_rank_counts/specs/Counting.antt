@@ -1,6 +1,6 @@
 -- Levels at places of a window, and the steps of a search for one of them by counting.
 use Rattle.std.specs.Prelude.{◌≡◌, ℕ, ◌+◌, ◌<◌, ◌≤◌, ◌^◌, List, ◌∷◌, [], ◌++◌, map, length, nat_lt, cond, slice_index_or}
-use Rattle.mw_model.specs.declared.places.Offset.{Offset}
+use Rattle.mw_model.specs.declared.offsets.Offset.{Offset}
 use Rattle.mw_model.specs.Rasters.{Sight}
 use Rattle.mw_rank.specs.Ranks.{levels_under}
 use Rattle.mw_rank.specs.Tallies.{count_under}

@@ -1,7 +1,7 @@
 //! What counting needs of a type of samples: one step of the search for a rank, for 32 columns at once.
 ghost use Rattle.std.specs.Prelude.{◌≡◌, ℕ, ◌+◌, ◌<◌, ◌≤◌, ◌^◌, length, slice_index_or};
 ghost use Rattle.mw_rank_counts.specs.Counting.{levels_on, HasPlaces, AreBetween, AreFrom, raised};
-ghost use Rattle.mw_rank_counts.specs.Squeezed.{HasRoom};
+ghost use Rattle.mw_rank_counts.specs.Squeezed.{BytesHaveRoom};
 
 use crate::squeezed::Bytes;
 use mw_rank::pixel::Grey;
@@ -43,13 +43,13 @@ pub trait Counted: Grey {
         bits: u32,
     ) -> u32
         requires whole { length found.old ≡ 32 }
-        requires room { HasRoom bytes.old }
+        requires room { BytesHaveRoom bytes.old }
         requires inside { HasPlaces samples.now 32 places.now }
         requires few { length places.now < 256 }
         requires rank { n ≤ length places.now }
         requires within { bits ≤ BITS }
         requires between { AreBetween Self.level Self.TOP samples.now places.now n bits found.old }
-        ensures room { HasRoom bytes.new }
+        ensures room { BytesHaveRoom bytes.new }
         ensures fewer { result ≤ bits }
         ensures between { AreBetween Self.level Self.TOP samples.now places.now n result found.new };
 

@@ -7,11 +7,11 @@ ghost use Rattle.mw_model.specs.Windows.{seen_at};
 ghost use Rattle.mw_rank.specs.mw_tile.Windows.{IsWindow};
 ghost use Rattle.mw_rank.specs.Ranks.{levels_under, IsRank, GainsRow, HasRows};
 ghost use Rattle.mw_rank_counts.specs.Counting.{AllUnder};
-ghost use Rattle.mw_rank_counts.specs.Squeezed.{HasRoom};
+ghost use Rattle.mw_rank_counts.specs.Squeezed.{BytesHaveRoom};
 
 use crate::Counted;
 use crate::costs::{Way, are_close, load_of, quickest};
-use crate::places::{Inner, inner_places, row_places};
+use crate::inner_columns::{Inner, inner_places, row_places};
 use crate::search::{Search, push_blocks};
 use crate::squeezed::{Bytes, room_for};
 use mw_model::{NoMemory, Offset, Rect};
@@ -101,10 +101,10 @@ fn push_inner<P: Counted>(
     requires within { wanted.search.bits ≤ P.BITS }
     requires small { AllUnder P.level P.TOP window.now.cells (2 ^ wanted.search.bits) }
     requires whole { length scratch.old.found.items ≡ 32 }
-    requires room { HasRoom scratch.old.bytes }
+    requires room { BytesHaveRoom scratch.old.bytes }
     ensures row { IfOk result (λ known. IsTrue known → GainsRow P.level (λ i. ranked wanted.entry.search.k (levels_under P.level (seen_at window.now) wanted.entry.offsets.now (wanted.entry.tile.x + wanted.entry.inner.first + i) (wanted.entry.tile.y + row))) wanted.entry.inner.count out.old.items out.new.items) }
     ensures whole { OnOk result (length scratch.new.found.items ≡ 32) }
-    ensures room { OnOk result (HasRoom scratch.new.bytes) }
+    ensures room { OnOk result (BytesHaveRoom scratch.new.bytes) }
 {
     let count = wanted.inner.count;
     let x = u64::from(wanted.tile.x) + u64::from(wanted.inner.first);
@@ -146,10 +146,10 @@ fn push_row<P: Counted>(
     requires left { HasRows P.level (λ x y. ranked wanted.search.k (levels_under P.level (seen_at window.now) wanted.offsets.now (wanted.tile.x + x) (wanted.tile.y + y))) wanted.inner.first wanted.tile.height edges.left.now }
     requires right { HasRows P.level (λ x y. ranked wanted.search.k (levels_under P.level (seen_at window.now) wanted.offsets.now (wanted.tile.x + (wanted.inner.first + wanted.inner.count) + x) (wanted.tile.y + y))) (wanted.tile.width - (wanted.inner.first + wanted.inner.count)) wanted.tile.height edges.right.now }
     requires whole { length scratch.old.found.items ≡ 32 }
-    requires room { HasRoom scratch.old.bytes }
+    requires room { BytesHaveRoom scratch.old.bytes }
     ensures row { IfOk result (λ known. IsTrue known → GainsRow P.level (λ i. ranked wanted.entry.search.k (levels_under P.level (seen_at window.now) wanted.entry.offsets.now (wanted.entry.tile.x + i) (wanted.entry.tile.y + row))) wanted.entry.tile.width out.old.items out.new.items) }
     ensures whole { OnOk result (length scratch.new.found.items ≡ 32) }
-    ensures room { OnOk result (HasRoom scratch.new.bytes) }
+    ensures room { OnOk result (BytesHaveRoom scratch.new.bytes) }
 {
     let first = wanted.inner.first;
     let rest = wanted.tile.width - (first + wanted.inner.count);

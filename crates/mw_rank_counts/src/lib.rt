@@ -11,7 +11,7 @@ mod counted;
 mod counted_16;
 mod counted_8;
 mod counting;
-mod places;
+mod inner_columns;
 mod search;
 mod squeezed;
 

@@ -5,7 +5,7 @@
 ghost use Rattle.std.specs.Prelude.{◌≡◌, ℕ, ◌+◌, ◌-◌, ◌<◌, ◌≤◌, ◌^◌, length, slice_index_or, OnOk};
 ghost use Rattle.mw_model.specs.PlanSteps.{ranked};
 ghost use Rattle.mw_rank_counts.specs.Counting.{levels_on, HasPlaces, AllUnder, AreBetween, AreFrom};
-ghost use Rattle.mw_rank_counts.specs.Squeezed.{HasRoom};
+ghost use Rattle.mw_rank_counts.specs.Squeezed.{BytesHaveRoom};
 ghost use Rattle.mw_rank.specs.Ranks.{GainsRow};
 
 use crate::Counted;
@@ -127,14 +127,14 @@ fn find<P: Counted>(
     search: Search,
 )
     requires whole { length found.old ≡ 32 }
-    requires room { HasRoom bytes.old }
+    requires room { BytesHaveRoom bytes.old }
     requires inside { HasPlaces samples.now 32 places.now }
     requires some { 1 ≤ length places.now }
     requires few { length places.now < 256 }
     requires within { search.bits ≤ P.BITS }
     requires small { AllUnder P.level P.TOP samples.now (2 ^ search.bits) }
     ensures found { (i : ℕ) → i < 32 → P.level (slice_index_or found.new i P.TOP) ≡ ranked search.k (levels_on P.level P.TOP samples.now places.now i) }
-    ensures room { HasRoom bytes.new }
+    ensures room { BytesHaveRoom bytes.new }
 {
     let bits = begin(found, samples, places, search);
     let n = (places.len() as u32).min(search.k).max(1) as u16;
@@ -153,7 +153,7 @@ fn push_block<P: Counted>(
     skip: usize,
 ) -> Result<(), NoMemory>
     requires whole { length found.old ≡ 32 }
-    requires room { HasRoom bytes.old }
+    requires room { BytesHaveRoom bytes.old }
     requires inside { HasPlaces samples.now 32 places.now }
     requires some { 1 ≤ length places.now }
     requires few { length places.now < 256 }
@@ -161,7 +161,7 @@ fn push_block<P: Counted>(
     requires small { AllUnder P.level P.TOP samples.now (2 ^ search.bits) }
     requires part { skip ≤ 32 }
     ensures row { OnOk result (GainsRow P.level (λ i. ranked search.k (levels_on P.level P.TOP samples.now places.now (skip + i))) (32 - skip) out.old.items out.new.items) }
-    ensures room { OnOk result (HasRoom bytes.new) }
+    ensures room { OnOk result (BytesHaveRoom bytes.new) }
 {
     find(found, bytes, samples, places, search);
     out.extend_from_slice(&found[skip..])?;
@@ -179,7 +179,7 @@ pub(crate) fn push_blocks<P: Counted>(
     count: u32,
 ) -> Result<(), NoMemory>
     requires whole { length found.old ≡ 32 }
-    requires room { HasRoom bytes.old }
+    requires room { BytesHaveRoom bytes.old }
     requires wide { 32 ≤ count }
     requires inside { HasPlaces samples.now count places.now }
     requires some { 1 ≤ length places.now }
@@ -187,7 +187,7 @@ pub(crate) fn push_blocks<P: Counted>(
     requires within { search.bits ≤ P.BITS }
     requires small { AllUnder P.level P.TOP samples.now (2 ^ search.bits) }
     ensures row { OnOk result (GainsRow P.level (λ i. ranked search.k (levels_on P.level P.TOP samples.now places.now i)) count out.old.items out.new.items) }
-    ensures room { OnOk result (HasRoom bytes.new) }
+    ensures room { OnOk result (BytesHaveRoom bytes.new) }
 {
     let count = count as usize;
     let mut done = 0;

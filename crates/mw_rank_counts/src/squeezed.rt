@@ -4,7 +4,7 @@
 //! A vector has twice as many bytes, and a pass over all places is wanted for each bit.
 ghost use Rattle.std.specs.Prelude.{◌≡◌, ℕ, ◌+◌, ◌*◌, ◌<◌, ◌≤◌, ◌⊎◌, ◌^◌, length, slice_index_or, IfOk};
 ghost use Rattle.mw_rank_counts.specs.Counting.{HasPlaces, AreBetween};
-ghost use Rattle.mw_rank_counts.specs.Squeezed.{squeezed, HasRoom};
+ghost use Rattle.mw_rank_counts.specs.Squeezed.{squeezed, BytesHaveRoom};
 
 use crate::search::{clear, seek};
 use mw_model::NoMemory;
@@ -24,7 +24,7 @@ pub struct Bytes {
 /// Room for the bytes of so many places.
 pub(crate) fn room_for(alloc: Global, count: usize) -> Result<Bytes, NoMemory>
     requires { count < 256 }
-    ensures room { IfOk result (λ b. HasRoom b) }
+    ensures room { IfOk result (λ b. BytesHaveRoom b) }
 {
     let samples = copies(alloc, count * 32, 0u8)?;
     let ranks = copies(alloc, 32, 0u8)?;
@@ -136,7 +136,7 @@ pub(crate) fn narrow_by_bytes(
     rest: u32,
 )
     requires whole { length found.old ≡ 32 }
-    requires room { HasRoom bytes.old }
+    requires room { BytesHaveRoom bytes.old }
     requires fits { length places.now ≤ length bytes.old.places.items }
     requires inside { HasPlaces samples.now 32 places.now }
     requires few { length places.now < 256 }
@@ -145,7 +145,7 @@ pub(crate) fn narrow_by_bytes(
     requires bits { bits ≤ 8 }
     requires rest { bits + rest ≤ 16 }
     requires between { AreBetween (λ s. s) 65535 samples.now places.now n (bits + rest) found.old }
-    ensures room { HasRoom bytes.new }
+    ensures room { BytesHaveRoom bytes.new }
     ensures fits { length bytes.new.places.items ≡ length bytes.old.places.items }
     ensures between { AreBetween (λ s. s) 65535 samples.now places.now n rest found.new }
 {

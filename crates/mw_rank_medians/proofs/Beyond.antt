@@ -3,7 +3,7 @@ use Rattle.std.proofs.Common.{◌≡◌, ℕ, ℤ, pos, ◌+ℤ◌, zero, suc, �
 use Rattle.std.specs.Option.{option_to_list}
 use Rattle.std.proofs.lemmas.Int.{ints}
 use Rattle.std.proofs.Math.Nat.{mul-le-mul_right}
-use Rattle.mw_model.specs.declared.places.Offset.{Offset}
+use Rattle.mw_model.specs.declared.offsets.Offset.{Offset}
 use Rattle.mw_model.specs.PlanSteps.{ranked}
 use Rattle.mw_model.specs.Rasters.{Sight}
 use Rattle.mw_model.proofs.Ranks.{nth_is, nth_from}
@@ -12,9 +12,9 @@ use Rattle.mw_rank.specs.Runs.{offsets_from}
 use Rattle.mw_rank.specs.Tallies.{count_under}
 use Rattle.mw_rank.proofs.Counts.{count-append, count-cons, count_within, one-le}
 use Rattle.mw_rank.proofs.Sights.{levels-cons, levels_at-on, length-levels, length-levels_at, offset_on, offsets-snoc}
-use Rattle.mw_rank_medians.specs.Numbered.{below, IsNumber}
+use Rattle.mw_rank_medians.specs.Numbered.{below, IsNthLevel}
 use Rattle.mw_rank_medians.specs.Columns.{sum_to, cell_from, block_below}
-use Rattle.mw_rank_medians.specs.Squares.{row_down, rows_from}
+use Rattle.mw_rank_medians.specs.Squares.{offset_rows, row_down}
 use Rattle.mw_rank_medians.specs.Filled.{or_top, filled_at, filled_under, filled_rank, line_x, line_y}
 use Rattle.mw_rank_medians.proofs.Medians.{number_ranked}
 use Rattle.mw_rank_medians.proofs.Sums.{sum_to-same, sum_to-turned}
@@ -70,11 +70,11 @@ row_filled level top sight b t x y (suc m) =
     omega (arith, before, last, on))
 
 rows_filled : {A : Type 0} (level : A → ℕ) (top : ℕ) (sight : Sight A) (b : Offset) (t x y side n : ℕ)
-    → count_under t (filled_under level top sight (rows_from b side n) x y) ≡ sum_to (λ q. sum_to (λ c. below (filled_at level top sight b (x + c) (y + q)) t) side) n
+    → count_under t (filled_under level top sight (offset_rows b side n) x y) ≡ sum_to (λ q. sum_to (λ c. below (filled_at level top sight b (x + c) (y + q)) t) side) n
 rows_filled level top sight b t x y side zero = refl
 rows_filled level top sight b t x y side (suc n) =
-    ap (count_under t) (filled-append level top sight (rows_from b side n) (offsets_from (row_down b n) side) x y)
-    ∙ count-append t (filled_under level top sight (rows_from b side n) x y) (filled_under level top sight (offsets_from (row_down b n) side) x y)
+    ap (count_under t) (filled-append level top sight (offset_rows b side n) (offsets_from (row_down b n) side) x y)
+    ∙ count-append t (filled_under level top sight (offset_rows b side n) x y) (filled_under level top sight (offsets_from (row_down b n) side) x y)
     ∙ (let before = rows_filled level top sight b t x y side n in
     let last = row_filled level top sight (row_down b n) t x y side in
     let on = sum_to-same _ (λ c. below (filled_at level top sight b (x + c) (y + n)) t) side (λ c lt. ap (λ (v : ℕ). below v t) (filled-down level top sight b (x + c) y n)) in
@@ -83,7 +83,7 @@ rows_filled level top sight b t x y side (suc n) =
 -- the cells of lines, which are rows or columns of the frame, as a square's
 pub square_filled : {A : Type 0} (level : A → ℕ) (d : A) (top : ℕ) (sight : Sight A) (b : Offset) (down : Bool) (x y stride rows side i r t : ℕ) (cells : List A)
     → HasRows level (λ p q. filled_at level top sight b (line_x down x p q) (line_y down y p q)) stride rows cells → i + side ≤ stride → r + side ≤ rows
-    → count_under t (filled_under level top sight (rows_from b side side) (line_x down x i r) (line_y down y i r)) ≡ block_below level d cells (r * stride) stride side i t
+    → count_under t (filled_under level top sight (offset_rows b side side) (line_x down x i r) (line_y down y i r)) ≡ block_below level d cells (r * stride) stride side i t
 square_filled level d top sight b false x y stride rows side i r t cells has across below_rows =
     rows_filled level top sight b t (x + i) (y + r) side side
     ∙ sum_to-same _ (λ q. sum_to (λ c. below (cell_from level d cells (r * stride) stride q (i + c)) t) side) side
@@ -116,10 +116,10 @@ square_filled level d top sight b true x y stride rows side i r t cells has acro
 
 -- a level that is known by the block's levels below each limit
 pub median_filled : {A : Type 0} (level : A → ℕ) (d : A) (top : ℕ) (sight : Sight A) (b : Offset) (down : Bool) (x y stride rows side k i r v : ℕ) (cells : List A)
-    → HasRows level (λ p q. filled_at level top sight b (line_x down x p q) (line_y down y p q)) stride rows cells → i + side ≤ stride → r + side ≤ rows → 1 ≤ k → IsNumber (block_below level d cells (r * stride) stride side i) k v
+    → HasRows level (λ p q. filled_at level top sight b (line_x down x p q) (line_y down y p q)) stride rows cells → i + side ≤ stride → r + side ≤ rows → 1 ≤ k → IsNthLevel (block_below level d cells (r * stride) stride side i) k v
     → v ≡ filled_rank level top sight b side k (line_x down x i r) (line_y down y i r)
 median_filled level d top sight b down x y stride rows side k i r v cells has across below_rows some number =
-    number_ranked k v (block_below level d cells (r * stride) stride side i) (filled_under level top sight (rows_from b side side) (line_x down x i r) (line_y down y i r))
+    number_ranked k v (block_below level d cells (r * stride) stride side i) (filled_under level top sight (offset_rows b side side) (line_x down x i r) (line_y down y i r))
     (λ t. square_filled level d top sight b down x y stride rows side i r t cells has across below_rows) some number
 
 -- the rows of a line's squares are within the lines about it

@@ -2,7 +2,7 @@
 use Rattle.std.proofs.Common.{◌≡◌, ℕ, ◌+◌, ◌-◌, ◌*◌, ◌<◌, ◌≤◌, List, get_or, ap, sym, arith, ◌∙◌, inl, inr, subst}
 use Rattle.std.proofs.lemmas.Bool.{cases_lt}
 use Rattle.std.specs.Prelude.{nat_le}
-use Rattle.mw_rank_medians.specs.Numbered.{below, IsNumber}
+use Rattle.mw_rank_medians.specs.Numbered.{below, IsNthLevel}
 use Rattle.mw_rank_medians.specs.Columns.{cell_from, column_below, block_below}
 
 -- a level that was loaded is that of a row
@@ -21,8 +21,8 @@ three_loaded level d samples from stride j p q r a b c t p-is q-is r-is a-is b-i
 
 -- three columns beside one another
 pub nine_counted : {A : Type 0} (level : A → ℕ) (d : A) (samples : List A) (from stride j at v : ℕ)
-    → IsNumber (λ t. column_below level d samples from stride 3 (at + j) t + column_below level d samples from stride 3 (at + 1 + j) t + column_below level d samples from stride 3 (at + 2 + j) t) 5 v
-    → IsNumber (block_below level d samples from stride 3 (at + j)) 5 v
+    → IsNthLevel (λ t. column_below level d samples from stride 3 (at + j) t + column_below level d samples from stride 3 (at + 1 + j) t + column_below level d samples from stride 3 (at + 2 + j) t) 5 v
+    → IsNthLevel (block_below level d samples from stride 3 (at + j)) 5 v
 nine_counted level d samples from stride j at v number t =
     number t ∙ ap (nat_le 5) (omega (arith, turned 0 (at + j) (omega arith), turned 1 (at + 1 + j) (omega arith), turned 2 (at + 2 + j) (omega arith)))
   where
@@ -44,8 +44,8 @@ five_loaded level d samples from stride j p q r s u a b c e f t p-is q-is r-is s
 
 -- five columns beside one another
 pub all_counted : {A : Type 0} (level : A → ℕ) (d : A) (samples : List A) (from stride j p q r s v : ℕ) → p ≡ j + 1 → q ≡ j + 2 → r ≡ j + 3 → s ≡ j + 4
-    → IsNumber (λ t. column_below level d samples from stride 5 j t + column_below level d samples from stride 5 p t + (column_below level d samples from stride 5 q t + column_below level d samples from stride 5 r t) + column_below level d samples from stride 5 s t) 13 v
-    → IsNumber (block_below level d samples from stride 5 j) 13 v
+    → IsNthLevel (λ t. column_below level d samples from stride 5 j t + column_below level d samples from stride 5 p t + (column_below level d samples from stride 5 q t + column_below level d samples from stride 5 r t) + column_below level d samples from stride 5 s t) 13 v
+    → IsNthLevel (block_below level d samples from stride 5 j) 13 v
 all_counted level d samples from stride j p q r s v p-is q-is r-is s-is number t =
     number t ∙ ap (nat_le 13) (omega (arith, turned 0 j (omega arith), turned 1 p p-is, turned 2 q q-is, turned 3 r r-is, turned 4 s s-is))
   where
@@ -55,12 +55,12 @@ all_counted level d samples from stride j p q r s v p-is q-is r-is s-is number t
 -- a vector more of a line, which may begin within what is there
 pub line_more : {A : Type 0} (level : A → ℕ) (d : A) (count : ℕ → ℕ → ℕ) (k from done width next : ℕ) (old new : List A) (lane : ℕ → ℕ) → from ≤ done → next ≡ from + width
     → ((i : ℕ) → i < width → level (get_or new (from + i) d) ≡ lane i) → ((p : ℕ) → p < from → get_or new p d ≡ get_or old p d)
-    → ((i : ℕ) → i < width → IsNumber (count (from + i)) k (lane i)) → ((i : ℕ) → i < done → IsNumber (count i) k (level (get_or old i d)))
-    → (i : ℕ) → i < next → IsNumber (count i) k (level (get_or new i d))
+    → ((i : ℕ) → i < width → IsNthLevel (count (from + i)) k (lane i)) → ((i : ℕ) → i < done → IsNthLevel (count i) k (level (get_or old i d)))
+    → (i : ℕ) → i < next → IsNthLevel (count i) k (level (get_or new i d))
 line_more level d count k from done width next old new lane early next-is put kept made before i lt =
     elim (cases_lt i from) [
-      | inl low ↦ subst (λ (v : ℕ). IsNumber (count i) k v) (ap level (sym (kept i low))) (before i (omega arith))
+      | inl low ↦ subst (λ (v : ℕ). IsNthLevel (count i) k v) (ap level (sym (kept i low))) (before i (omega arith))
       | inr high ↦
           let at : from + (i - from) ≡ i = omega arith in
-          subst (λ (p : ℕ). IsNumber (count p) k (level (get_or new p d))) at (subst (λ (v : ℕ). IsNumber (count (from + (i - from))) k v) (sym (put (i - from) (omega arith))) (made (i - from) (omega arith)))
+          subst (λ (p : ℕ). IsNthLevel (count p) k (level (get_or new p d))) at (subst (λ (v : ℕ). IsNthLevel (count (from + (i - from))) k v) (sym (put (i - from) (omega arith))) (made (i - from) (omega arith)))
     ]

@@ -4,7 +4,7 @@ use Rattle.std.proofs.lemmas.Bool.{cases_lt}
 use Rattle.std.proofs.lemmas.List.{get_or_append_left, get_or-append-add, get_or-drop, get_or_default}
 use Rattle.std.specs.Prelude.{nat_lt, nat_le}
 use Rattle.mw_rank.specs.Ranks.{GainsRow}
-use Rattle.mw_rank_medians.specs.Numbered.{below, IsNumber}
+use Rattle.mw_rank_medians.specs.Numbered.{below, IsNthLevel}
 use Rattle.mw_rank_medians.specs.Columns.{block_below, GainsMedians}
 use Rattle.mw_rank_medians.proofs.Sums.{sum_to-same}
 
@@ -23,7 +23,7 @@ block_on level d samples from at stride side j i t is =
 
 -- a piece more of a row, which may begin within what is there
 pub medians_more : {A : Type 0} (level : A → ℕ) (d : A) (samples : List A) (from stride side k at done next : ℕ) (piece out old new : List A) → at ≤ done → done ≤ next → next ≡ at + length piece → new ≡ out ++ drop (done - at) piece
-    → ((j : ℕ) → j < length piece → IsNumber (block_below level d samples (from + at) stride side j) k (level (get_or piece j d)))
+    → ((j : ℕ) → j < length piece → IsNthLevel (block_below level d samples (from + at) stride side j) k (level (get_or piece j d)))
     → GainsMedians level d samples from stride side k done old out → GainsMedians level d samples from stride side k next old new
 medians_more level d samples from stride side k at done next piece out old new early further next-is new-is medians before =
     let rest = drop (done - at) piece in
@@ -48,7 +48,7 @@ medians_more level d samples from stride side k at done next piece out old new e
     }
 
 -- medians that were added are the row that is wanted
-pub medians_gained : {A : Type 0} (level : A → ℕ) (d : A) (samples : List A) (from stride side k n : ℕ) (value : ℕ → ℕ) (old new : List A) → ((i v : ℕ) → i < n → IsNumber (block_below level d samples from stride side i) k v → v ≡ value i)
+pub medians_gained : {A : Type 0} (level : A → ℕ) (d : A) (samples : List A) (from stride side k n : ℕ) (value : ℕ → ℕ) (old new : List A) → ((i v : ℕ) → i < n → IsNthLevel (block_below level d samples from stride side i) k v → v ≡ value i)
     → GainsMedians level d samples from stride side k n old new → GainsRow level value n old new
 medians_gained level d samples from stride side k n value old new known gains = record {
   size = gains.size;

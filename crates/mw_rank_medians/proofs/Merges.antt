@@ -7,7 +7,7 @@ use Rattle.mw_rank_medians.specs.declared.five.Five.{Five}
 use Rattle.mw_rank_medians.specs.declared.five.Six.{Six}
 use Rattle.mw_rank_medians.specs.declared.five.Ten.{Ten}
 use Rattle.mw_rank_medians.specs.Networks.{two_with_three, five_with_five, middle_of_twenty, last_of}
-use Rattle.mw_rank_medians.specs.Numbered.{below, IsNumber, AreTwo, AreThree, AreFive, AreTen, AreMiddle}
+use Rattle.mw_rank_medians.specs.Numbered.{below, IsNthLevel, AreTwo, AreThree, AreFive, AreTen, AreMiddle}
 use Rattle.mw_rank_medians.proofs.Tests.{lt-min, lt-max, agree_on_two, agree_at_two}
 
 abbrev or : Bool → Bool → Bool
@@ -150,7 +150,7 @@ lt-last_of : (x : Six ℕ) (y : Five ℕ) (t : ℕ) → nat_lt (last_of min max 
 lt-last_of x y t = simp (lt-min, lt-max) refl
 
 -- number 13 of twenty and five
-pub median_made : (x : Six ℕ) (y : Five ℕ) (f g count : ℕ → ℕ) → AreMiddle f x → AreFive g y → ((t : ℕ) → count t ≡ f t + g t) → IsNumber count 13 (last_of min max x y)
+pub median_made : (x : Six ℕ) (y : Five ℕ) (f g count : ℕ → ℕ) → AreMiddle f x → AreFive g y → ((t : ℕ) → count t ≡ f t + g t) → IsNthLevel count 13 (last_of min max x y)
 median_made x y f g count of-x of-y is t =
     lt-last_of x y t
     ∙ ap (λ (p : Six Bool). last_of or and p (five_below y t)) (six_tested f x of-x t)

@@ -3,7 +3,7 @@
 use Rattle.std.proofs.Common.{◌≡◌, ℕ, ◌+◌, ◌≤◌, Bool, true, false, ◌&&◌, ◌||◌, min, max, cond, refl, arith}
 use Rattle.std.specs.Prelude.{nat_lt, nat_le}
 use Rattle.mw_rank_medians.specs.declared.nine.Three.{Three}
-use Rattle.mw_rank_medians.specs.Numbered.{below, IsNumber, AreThree, middle}
+use Rattle.mw_rank_medians.specs.Numbered.{below, IsNthLevel, AreThree, middle}
 use Rattle.mw_rank_medians.proofs.Tests.{lt-min, lt-max, agree_on_three, agree_at}
 
 abbrev one : Bool → ℕ
@@ -75,7 +75,7 @@ nine_counts = refl
 
 -- number 5 of three columns of three in order
 pub median_found : (x y z : Three ℕ) (f g h : ℕ → ℕ) → AreThree f x → AreThree g y → AreThree h z
-    → IsNumber (λ t. f t + g t + h t) 5 (middle (max (max x.low y.low) z.low) (middle x.middle y.middle z.middle) (min (min x.high y.high) z.high))
+    → IsNthLevel (λ t. f t + g t + h t) 5 (middle (max (max x.low y.low) z.low) (middle x.middle y.middle z.middle) (min (min x.high y.high) z.high))
 median_found x y z f g h of-x of-y of-z = λ t.
     let low = max (max x.low y.low) z.low in
     let mid = middle x.middle y.middle z.middle in

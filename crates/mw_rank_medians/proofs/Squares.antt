@@ -4,7 +4,7 @@ use Rattle.std.proofs.lemmas.Int.{ints}
 use Rattle.std.proofs.lemmas.List.{get_or_default, take_more}
 use Rattle.std.proofs.lemmas.Nat.{mul-add-lt}
 use Rattle.std.proofs.Math.Nat.{mul-le-mul_right}
-use Rattle.mw_model.specs.declared.places.Offset.{Offset}
+use Rattle.mw_model.specs.declared.offsets.Offset.{Offset}
 use Rattle.mw_model.specs.Windows.{View, seen_at}
 use Rattle.mw_rank.specs.Ranks.{levels_under, levels_at}
 use Rattle.mw_rank.specs.Runs.{offsets_from}
@@ -13,7 +13,7 @@ use Rattle.mw_rank.proofs.Counts.{count-append, count-cons}
 use Rattle.mw_rank.proofs.Sights.{levels-append, levels-cons, offset_on, offsets-snoc, seen_inside}
 use Rattle.mw_rank_medians.specs.Numbered.{below}
 use Rattle.mw_rank_medians.specs.Columns.{sum_to, cell_from}
-use Rattle.mw_rank_medians.specs.Squares.{row_down, rows_from, ShowsSquare}
+use Rattle.mw_rank_medians.specs.Squares.{row_down, offset_rows, ShowsSquare}
 use Rattle.mw_rank_medians.proofs.Sums.{sum_to-same, sum_to-turned}
 
 -- one offset in a column and row of the window
@@ -45,18 +45,18 @@ row_shown level d w b t x y column row (suc m) size down across column-is row-is
 -- rows of offsets, row after row
 rows_shown : {A : Type 0} (level : A → ℕ) (d : A) (w : View A) (b : Offset) (t x y column row side n : ℕ) → length w.cells ≡ w.place.height * w.place.width → row + n ≤ w.place.height → column + side ≤ w.place.width
     → pos x +ℤ b.dx -ℤ pos w.place.x ≡ pos column → pos y +ℤ b.dy -ℤ pos w.place.y ≡ pos row
-    → count_under t (levels_under level (seen_at w) (rows_from b side n) x y) ≡ sum_to (λ r. sum_to (λ c. below (level (get_or w.cells ((row + r) * w.place.width + (column + c)) d)) t) side) n
+    → count_under t (levels_under level (seen_at w) (offset_rows b side n) x y) ≡ sum_to (λ r. sum_to (λ c. below (level (get_or w.cells ((row + r) * w.place.width + (column + c)) d)) t) side) n
 rows_shown level d w b t x y column row side zero size down across column-is row-is = refl
 rows_shown level d w b t x y column row side (suc n) size down across column-is row-is =
-    ap (count_under t) (levels-append level (seen_at w) (rows_from b side n) (offsets_from (row_down b n) side) x y)
-    ∙ count-append t (levels_under level (seen_at w) (rows_from b side n) x y) (levels_under level (seen_at w) (offsets_from (row_down b n) side) x y)
+    ap (count_under t) (levels-append level (seen_at w) (offset_rows b side n) (offsets_from (row_down b n) side) x y)
+    ∙ count-append t (levels_under level (seen_at w) (offset_rows b side n) x y) (levels_under level (seen_at w) (offsets_from (row_down b n) side) x y)
     ∙ (let before = rows_shown level d w b t x y column row side n size (omega arith) across column-is row-is in
     let last = row_shown level d w (row_down b n) t x y column (row + n) side size (omega arith) across column-is (omega (arith, ints)) in
     omega (arith, before, last))
 
 pub square_shown : {A : Type 0} (level : A → ℕ) (d : A) (w : View A) (b : Offset) (x y n column row from side : ℕ) → length w.cells ≡ w.place.height * w.place.width → row + side ≤ w.place.height → column + n + side ≤ w.place.width + 1
     → pos x +ℤ b.dx -ℤ pos w.place.x ≡ pos column → pos y +ℤ b.dy -ℤ pos w.place.y ≡ pos row → from ≡ row * w.place.width + column
-    → ShowsSquare level d (seen_at w) w.cells (rows_from b side side) x y n from w.place.width side
+    → ShowsSquare level d (seen_at w) w.cells (offset_rows b side side) x y n from w.place.width side
 square_shown level d w b x y n column row from side size down across column-is row-is from-is = record {
   inside = fits row side column n w.place.width w.place.height from (length w.cells) size down across from-is;
   seen = λ i t lt.

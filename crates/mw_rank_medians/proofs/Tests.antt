@@ -19,7 +19,7 @@ pub agree_at : (f g : ℕ → ℕ → ℕ → Bool) (a b c m n o : ℕ) → agre
 agree_at f g a b c m n o e m-low n-low o-low =
     agree_below_at (f m n) (g m n) c o (agree_below_at (λ n. agree_below (f m n) (g m n) c) (λ n. true) b n (agree_below_at (λ m. agree_below (λ n. agree_below (f m n) (g m n) c) (λ n. true) b) (λ m. true) a m e m-low) n-low) o-low
 
--- the same for two numbers
+-- both agree on all pairs of numbers below these
 abbrev pub agree_on_two : (ℕ → ℕ → Bool) → (ℕ → ℕ → Bool) → ℕ → ℕ → Bool
 agree_on_two f g a b = agree_below (λ m. agree_below (f m) (g m) b) (λ m. true) a
 

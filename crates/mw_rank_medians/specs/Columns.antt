@@ -1,6 +1,6 @@
 -- Columns of samples that stand in rows of one length.
 use Rattle.std.specs.Prelude.{◌≡◌, ℕ, zero, suc, ◌+◌, ◌*◌, ◌<◌, List, length, slice_index_or}
-use Rattle.mw_rank_medians.specs.Numbered.{below, IsNumber}
+use Rattle.mw_rank_medians.specs.Numbered.{below, IsNthLevel}
 
 -- the sum of the first values
 abbrev pub sum_to : (ℕ → ℕ) → ℕ → ℕ
@@ -23,4 +23,4 @@ block_below level d samples from stride side j t = sum_to (λ c. column_below le
 pub record GainsMedians {A : Type 0} (level : A → ℕ) (d : A) (samples : List A) (from stride side k n : ℕ) (old new : List A) : Type 0 where
   pub size : length new ≡ length old + n
   pub kept : (p : ℕ) (e : A) → p < length old → slice_index_or new p e ≡ slice_index_or old p e
-  pub made : (i : ℕ) → i < n → IsNumber (block_below level d samples from stride side i) k (level (slice_index_or new (length old + i) d))
+  pub made : (i : ℕ) → i < n → IsNthLevel (block_below level d samples from stride side i) k (level (slice_index_or new (length old + i) d))

@@ -1,10 +1,10 @@
 -- What is seen under a square, with the greatest level where nothing is seen.
 use Rattle.std.specs.Prelude.{ℕ, ◌+◌, Bool, cond, List, [], ◌∷◌}
 use Rattle.mw_model.specs.PlanSteps.{ranked}
-use Rattle.mw_model.specs.declared.places.Offset.{Offset}
+use Rattle.mw_model.specs.declared.offsets.Offset.{Offset}
 use Rattle.mw_model.specs.Rasters.{Sight}
 use Rattle.mw_rank.specs.Ranks.{levels_at}
-use Rattle.mw_rank_medians.specs.Squares.{rows_from}
+use Rattle.mw_rank_medians.specs.Squares.{offset_rows}
 
 -- the first level, or the greatest one where there is none
 abbrev pub or_top : ℕ → List ℕ → ℕ
@@ -22,7 +22,7 @@ filled_under level top sight (b ∷ bs) x y = filled_at level top sight b x y �
 
 -- number k of the levels under a square that begins at an offset from column x of row y
 abbrev pub filled_rank : {A : Type 0} → (A → ℕ) → ℕ → Sight A → Offset → ℕ → ℕ → ℕ → ℕ → ℕ
-filled_rank level top sight b side k x y = ranked k (filled_under level top sight (rows_from b side side) x y)
+filled_rank level top sight b side k x y = ranked k (filled_under level top sight (offset_rows b side side) x y)
 
 -- the column of place i of line r, where lines are rows, or columns if they go down
 abbrev pub line_x : Bool → ℕ → ℕ → ℕ → ℕ

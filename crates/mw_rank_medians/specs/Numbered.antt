@@ -12,8 +12,8 @@ abbrev pub below : ℕ → ℕ → ℕ
 below v t = cond (nat_lt v t) 1 0
 
 -- of levels of which `count t` are below t, v is number n in rising order
-abbrev pub IsNumber : (ℕ → ℕ) → ℕ → ℕ → Type 0
-IsNumber count n v = (t : ℕ) → nat_lt v t ≡ nat_le n (count t)
+abbrev pub IsNthLevel : (ℕ → ℕ) → ℕ → ℕ → Type 0
+IsNthLevel count n v = (t : ℕ) → nat_lt v t ≡ nat_le n (count t)
 
 -- the levels of one lane
 abbrev pub lanes_of_three : {V : Type 0} → (V → ℕ → ℕ) → Three V → ℕ → Three ℕ
@@ -22,9 +22,9 @@ lanes_of_three lane x i = record { low = lane x.low i; middle = lane x.middle i;
 -- of three levels of which `count t` are below t, those are all in rising order
 pub record AreThree (count : ℕ → ℕ) (x : Three ℕ) : Type 0 where
   pub few : (t : ℕ) → count t ≤ 3
-  pub low : IsNumber count 1 x.low
-  pub middle : IsNumber count 2 x.middle
-  pub high : IsNumber count 3 x.high
+  pub low : IsNthLevel count 1 x.low
+  pub middle : IsNthLevel count 2 x.middle
+  pub high : IsNthLevel count 3 x.high
 
 -- the middle one of three levels
 abbrev pub middle : ℕ → ℕ → ℕ → ℕ
@@ -48,38 +48,38 @@ lanes_of_ten lane x i = record { odd = lanes_of_five lane x.odd i; even = lanes_
 -- of two levels of which `count t` are below t, those are all in rising order
 pub record AreTwo (count : ℕ → ℕ) (x : Two ℕ) : Type 0 where
   pub few : (t : ℕ) → count t ≤ 2
-  pub low : IsNumber count 1 x.low
-  pub high : IsNumber count 2 x.high
+  pub low : IsNthLevel count 1 x.low
+  pub high : IsNthLevel count 2 x.high
 
 -- of five levels of which `count t` are below t, those are all in rising order
 pub record AreFive (count : ℕ → ℕ) (x : Five ℕ) : Type 0 where
   pub few : (t : ℕ) → count t ≤ 5
-  pub first : IsNumber count 1 x.first
-  pub second : IsNumber count 2 x.second
-  pub third : IsNumber count 3 x.third
-  pub fourth : IsNumber count 4 x.fourth
-  pub fifth : IsNumber count 5 x.fifth
+  pub first : IsNthLevel count 1 x.first
+  pub second : IsNthLevel count 2 x.second
+  pub third : IsNthLevel count 3 x.third
+  pub fourth : IsNthLevel count 4 x.fourth
+  pub fifth : IsNthLevel count 5 x.fifth
 
 -- of ten levels of which `count t` are below t, those are all in rising order: those of odd numbers, and those of even ones
 pub record AreTen (count : ℕ → ℕ) (x : Ten ℕ) : Type 0 where
   pub few : (t : ℕ) → count t ≤ 10
-  pub first : IsNumber count 1 x.odd.first
-  pub second : IsNumber count 2 x.even.first
-  pub third : IsNumber count 3 x.odd.second
-  pub fourth : IsNumber count 4 x.even.second
-  pub fifth : IsNumber count 5 x.odd.third
-  pub sixth : IsNumber count 6 x.even.third
-  pub seventh : IsNumber count 7 x.odd.fourth
-  pub eighth : IsNumber count 8 x.even.fourth
-  pub ninth : IsNumber count 9 x.odd.fifth
-  pub tenth : IsNumber count 10 x.even.fifth
+  pub first : IsNthLevel count 1 x.odd.first
+  pub second : IsNthLevel count 2 x.even.first
+  pub third : IsNthLevel count 3 x.odd.second
+  pub fourth : IsNthLevel count 4 x.even.second
+  pub fifth : IsNthLevel count 5 x.odd.third
+  pub sixth : IsNthLevel count 6 x.even.third
+  pub seventh : IsNthLevel count 7 x.odd.fourth
+  pub eighth : IsNthLevel count 8 x.even.fourth
+  pub ninth : IsNthLevel count 9 x.odd.fifth
+  pub tenth : IsNthLevel count 10 x.even.fifth
 
 -- of twenty levels of which `count t` are below t, those are numbers 8 to 13 in rising order
 pub record AreMiddle (count : ℕ → ℕ) (x : Six ℕ) : Type 0 where
   pub few : (t : ℕ) → count t ≤ 20
-  pub first : IsNumber count 8 x.first
-  pub second : IsNumber count 9 x.second
-  pub third : IsNumber count 10 x.third
-  pub fourth : IsNumber count 11 x.fourth
-  pub fifth : IsNumber count 12 x.fifth
-  pub sixth : IsNumber count 13 x.sixth
+  pub first : IsNthLevel count 8 x.first
+  pub second : IsNthLevel count 9 x.second
+  pub third : IsNthLevel count 10 x.third
+  pub fourth : IsNthLevel count 11 x.fourth
+  pub fifth : IsNthLevel count 12 x.fifth
+  pub sixth : IsNthLevel count 13 x.sixth

@@ -1,6 +1,6 @@
 -- Elements that are squares of offsets.
 use Rattle.std.specs.Prelude.{◌≡◌, ℕ, zero, suc, ◌+◌, ◌*◌, ◌<◌, ◌≤◌, List, [], ◌++◌, length, pos, ◌+ℤ◌, ◌⊎◌}
-use Rattle.mw_model.specs.declared.places.Offset.{Offset}
+use Rattle.mw_model.specs.declared.offsets.Offset.{Offset}
 use Rattle.mw_model.specs.Rasters.{Sight}
 use Rattle.mw_rank.specs.Ranks.{levels_under}
 use Rattle.mw_rank.specs.Runs.{offsets_from}
@@ -12,9 +12,9 @@ abbrev pub row_down : Offset → ℕ → Offset
 row_down b r = record { dx = b.dx; dy = b.dy +ℤ pos r }
 
 -- the first rows of so many offsets each, from this one to the right and down
-abbrev pub rows_from : Offset → ℕ → ℕ → List Offset
-rows_from b side zero = []
-rows_from b side (suc n) = rows_from b side n ++ offsets_from (row_down b n) side
+abbrev pub offset_rows : Offset → ℕ → ℕ → List Offset
+offset_rows b side zero = []
+offset_rows b side (suc n) = offset_rows b side n ++ offsets_from (row_down b n) side
 
 -- number k is the median under a square of that side, one for which there is a network
 abbrev pub IsMedian : ℕ → ℕ → Type 0

@@ -1,7 +1,7 @@
 //! The median of 25: five columns of five are put in order, two pairs of them are merged by odd and even places (Batcher
 //! 1968), and of the numbers that can still be the median those are kept that the last column leaves.
 ghost use Rattle.std.specs.Prelude.{◌≡◌, ℕ, ◌+◌, min, max};
-ghost use Rattle.mw_rank_medians.specs.Numbered.{below, lanes_of_two, lanes_of_three, lanes_of_four, lanes_of_five, lanes_of_six, lanes_of_ten, AreFive, AreMiddle, AreTen, IsNumber};
+ghost use Rattle.mw_rank_medians.specs.Numbered.{below, lanes_of_two, lanes_of_three, lanes_of_four, lanes_of_five, lanes_of_six, lanes_of_ten, AreFive, AreMiddle, AreTen, IsNthLevel};
 ghost use Rattle.mw_rank_medians.specs.Networks.{two_with_three, two_with_two, three_with_three, ten_of, middle_of_four, middle_of_six, low_of_ten, high_of_ten, middle_of_twenty, last_of};
 
 use crate::Vectored;
@@ -331,7 +331,7 @@ pub(crate) fn median_of_tens<P: Vectored>(
     y: Ten<P::Vector>,
     z: Five<P::Vector>,
 ) -> P::Vector
-    ensures { (i : ℕ) (f g h : ℕ → ℕ) → AreTen f (lanes_of_ten P.lane x i) → AreTen g (lanes_of_ten P.lane y i) → AreFive h (lanes_of_five P.lane z i) → IsNumber (λ t. f t + g t + h t) 13 (P.lane result i) }
+    ensures { (i : ℕ) (f g h : ℕ → ℕ) → AreTen f (lanes_of_ten P.lane x i) → AreTen g (lanes_of_ten P.lane y i) → AreFive h (lanes_of_five P.lane z i) → IsNthLevel (λ t. f t + g t + h t) 13 (P.lane result i) }
 {
     let middle = middle_of_ten::<P>(x, y);
     with_last::<P>(middle, z)

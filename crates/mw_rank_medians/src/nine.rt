@@ -1,7 +1,7 @@
 //! The median of nine: three columns of three are put in order, and then the highest of the lowest, the middle of the
 //! middle and the lowest of the highest.
 ghost use Rattle.std.specs.Prelude.{◌≡◌, ℕ, ◌+◌};
-ghost use Rattle.mw_rank_medians.specs.Numbered.{below, lanes_of_three, AreThree, IsNumber, middle};
+ghost use Rattle.mw_rank_medians.specs.Numbered.{below, lanes_of_three, AreThree, IsNthLevel, middle};
 
 use crate::Vectored;
 
@@ -49,7 +49,7 @@ pub(crate) fn median_of_nine<P: Vectored>(
     b: Three<P::Vector>,
     c: Three<P::Vector>,
 ) -> P::Vector
-    ensures { (i : ℕ) (f g h : ℕ → ℕ) → AreThree f (lanes_of_three P.lane a i) → AreThree g (lanes_of_three P.lane b i) → AreThree h (lanes_of_three P.lane c i) → IsNumber (λ t. f t + g t + h t) 5 (P.lane result i) }
+    ensures { (i : ℕ) (f g h : ℕ → ℕ) → AreThree f (lanes_of_three P.lane a i) → AreThree g (lanes_of_three P.lane b i) → AreThree h (lanes_of_three P.lane c i) → IsNthLevel (λ t. f t + g t + h t) 5 (P.lane result i) }
 {
     let low = P::higher(P::higher(a.low, b.low), c.low);
     let middle = middle_of_three::<P>(a.middle, b.middle, c.middle);

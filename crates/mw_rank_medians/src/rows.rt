@@ -2,7 +2,7 @@
 //! the lanes of a vector take the rest of their columns from the next ones. The last squares put columns of their own in order.
 //! A long row is made in pieces, of which each is copied into the result while the processor begins with the next.
 ghost use Rattle.std.specs.Prelude.{◌≡◌, ℕ, ◌+◌, ◌*◌, ◌<◌, ◌≤◌, length, slice_index_or, OnOk};
-ghost use Rattle.mw_rank_medians.specs.Numbered.{lanes_of_three, lanes_of_five, AreThree, AreFive, IsNumber};
+ghost use Rattle.mw_rank_medians.specs.Numbered.{lanes_of_three, lanes_of_five, AreThree, AreFive, IsNthLevel};
 ghost use Rattle.mw_rank_medians.specs.Columns.{column_below, block_below, GainsMedians};
 ghost use Rattle.mw_rank_medians.specs.Squares.{IsMedian};
 
@@ -46,7 +46,7 @@ fn first_of_nine<P: Vectored>(out: &mut [P], sheet: Sheet<P>) -> usize
     ensures size { length out.new ≡ length out.old }
     ensures part { result ≤ length out.old }
     ensures rest { length out.old < result + 2 * P.WIDTH }
-    ensures medians { (i : ℕ) → i < result → IsNumber (block_below P.level P.TOP sheet.entry.samples.now sheet.entry.from sheet.entry.stride 3 i) 5 (P.level (slice_index_or out.new i P.TOP)) }
+    ensures medians { (i : ℕ) → i < result → IsNthLevel (block_below P.level P.TOP sheet.entry.samples.now sheet.entry.from sheet.entry.stride 3 i) 5 (P.level (slice_index_or out.new i P.TOP)) }
 {
     let width = P::WIDTH;
     let mut done = 0usize;
@@ -70,7 +70,7 @@ fn medians_of_nine<P: Vectored>(out: &mut [P], sheet: Sheet<P>)
     requires wide { P.WIDTH ≤ length out.old }
     requires inside { sheet.from + 2 * sheet.stride + length out.old + 2 ≤ length sheet.samples.now }
     ensures size { length out.new ≡ length out.old }
-    ensures medians { (i : ℕ) → i < length out.old → IsNumber (block_below P.level P.TOP sheet.entry.samples.now sheet.entry.from sheet.entry.stride 3 i) 5 (P.level (slice_index_or out.new i P.TOP)) }
+    ensures medians { (i : ℕ) → i < length out.old → IsNthLevel (block_below P.level P.TOP sheet.entry.samples.now sheet.entry.from sheet.entry.stride 3 i) 5 (P.level (slice_index_or out.new i P.TOP)) }
 {
     let mut done = first_of_nine(out, sheet);
     'by_vector: while done < out.len() {
@@ -110,7 +110,7 @@ fn first_of_25<P: Vectored>(out: &mut [P], sheet: Sheet<P>) -> usize
     ensures size { length out.new ≡ length out.old }
     ensures part { result ≤ length out.old }
     ensures rest { length out.old < result + 3 * P.WIDTH }
-    ensures medians { (i : ℕ) → i < result → IsNumber (block_below P.level P.TOP sheet.entry.samples.now sheet.entry.from sheet.entry.stride 5 i) 13 (P.level (slice_index_or out.new i P.TOP)) }
+    ensures medians { (i : ℕ) → i < result → IsNthLevel (block_below P.level P.TOP sheet.entry.samples.now sheet.entry.from sheet.entry.stride 5 i) 13 (P.level (slice_index_or out.new i P.TOP)) }
 {
     let width = P::WIDTH;
     if out.len() < 3 * width {
@@ -143,7 +143,7 @@ fn medians_of_25<P: Vectored>(out: &mut [P], sheet: Sheet<P>)
     requires wide { P.WIDTH ≤ length out.old }
     requires inside { sheet.from + 4 * sheet.stride + length out.old + 4 ≤ length sheet.samples.now }
     ensures size { length out.new ≡ length out.old }
-    ensures medians { (i : ℕ) → i < length out.old → IsNumber (block_below P.level P.TOP sheet.entry.samples.now sheet.entry.from sheet.entry.stride 5 i) 13 (P.level (slice_index_or out.new i P.TOP)) }
+    ensures medians { (i : ℕ) → i < length out.old → IsNthLevel (block_below P.level P.TOP sheet.entry.samples.now sheet.entry.from sheet.entry.stride 5 i) 13 (P.level (slice_index_or out.new i P.TOP)) }
 {
     let mut done = first_of_25(out, sheet);
     'by_vector: while done < out.len() {
@@ -167,7 +167,7 @@ pub(crate) fn medians_of_rows<P: Vectored>(out: &mut [P], sheet: Sheet<P>, side:
     requires inside { sheet.from + side * sheet.stride + length out.old + side ≤ length sheet.samples.now + sheet.stride + 1 }
     requires median { IsMedian side k }
     ensures size { length out.new ≡ length out.old }
-    ensures medians { (i : ℕ) → i < length out.old → IsNumber (block_below P.level P.TOP sheet.entry.samples.now sheet.entry.from sheet.entry.stride side i) k (P.level (slice_index_or out.new i P.TOP)) }
+    ensures medians { (i : ℕ) → i < length out.old → IsNthLevel (block_below P.level P.TOP sheet.entry.samples.now sheet.entry.from sheet.entry.stride side i) k (P.level (slice_index_or out.new i P.TOP)) }
 {
     if side == 3 {
         medians_of_nine(out, sheet);

@@ -2,7 +2,7 @@
 ghost use Rattle.std.specs.Prelude.{◌≡◌, ◌+◌, ◌<◌, ◌≤◌, pos, ◌+ℤ◌, ◌-ℤ◌, IfSome, IsTrue};
 ghost use Rattle.mw_model.specs.Windows.{seen_at};
 ghost use Rattle.mw_model.specs.declared.limits.TheConstants.{FAR_LIMIT};
-ghost use Rattle.mw_rank_medians.specs.Squares.{rows_from, ShowsSquare};
+ghost use Rattle.mw_rank_medians.specs.Squares.{offset_rows, ShowsSquare};
 
 use mw_model::{Offset, Rect};
 use mw_rank::pixel::Grey;
@@ -30,7 +30,7 @@ fn stands_at(first: Offset, offset: Offset, column: usize, row: usize) -> bool
 pub(crate) fn square_of(offsets: &[Offset], side: usize) -> Option<Offset>
     requires some { 1 ≤ side }
     requires small { side < 256 }
-    ensures { IfSome result (λ b. offsets.now ≡ rows_from b side side) }
+    ensures { IfSome result (λ b. offsets.now ≡ offset_rows b side side) }
 {
     if offsets.is_empty() || offsets.len() != side * side {
         return None;
@@ -91,7 +91,7 @@ pub(crate) fn square_in<P: Grey>(
     requires near { x ≤ FAR_LIMIT }
     requires high { y ≤ FAR_LIMIT }
     requires some { 1 ≤ side }
-    ensures { IfSome result (λ from. ShowsSquare P.level P.TOP (seen_at window.now) window.now.cells (rows_from first side side) x y count from window.now.place.width side) }
+    ensures { IfSome result (λ from. ShowsSquare P.level P.TOP (seen_at window.now) window.now.cells (offset_rows first side side) x y count from window.now.place.width side) }
 {
     let place = window.place();
     // for their number

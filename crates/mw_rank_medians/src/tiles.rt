@@ -7,7 +7,7 @@ ghost use Rattle.mw_model.specs.Rasters.{Raster, cell_at};
 ghost use Rattle.mw_model.specs.Windows.{seen_at};
 ghost use Rattle.mw_rank.specs.mw_tile.Windows.{IsWindow};
 ghost use Rattle.mw_rank.specs.Ranks.{levels_under, IsRank, GainsRow, HasRows};
-ghost use Rattle.mw_rank_medians.specs.Squares.{rows_from, IsMedian};
+ghost use Rattle.mw_rank_medians.specs.Squares.{offset_rows, IsMedian};
 ghost use Rattle.mw_rank_medians.specs.Filled.{filled_rank};
 
 use crate::Vectored;
@@ -112,7 +112,7 @@ fn checked<P: Grey>(
     y: u32,
 ) -> Result<P, NoMemory>
     requires few { length wanted.offsets.now < 2 ^ 16 }
-    requires square { wanted.offsets.now ≡ rows_from wanted.first wanted.side wanted.side }
+    requires square { wanted.offsets.now ≡ offset_rows wanted.first wanted.side wanted.side }
     requires filled { P.level filled < P.top_level → P.level filled ≡ filled_rank P.level P.top_level (seen_at wanted.window.now) wanted.first wanted.side wanted.k x y }
     ensures { IfOk result (λ s. P.level s ≡ ranked wanted.entry.k (levels_under P.level (seen_at wanted.entry.window.now) wanted.entry.offsets.now x y)) }
 {
@@ -131,7 +131,7 @@ fn push_cut<P: Grey>(
     part: Part,
 ) -> Result<(), NoMemory>
     requires few { length wanted.offsets.now < 2 ^ 16 }
-    requires square { wanted.offsets.now ≡ rows_from wanted.first wanted.side wanted.side }
+    requires square { wanted.offsets.now ≡ offset_rows wanted.first wanted.side wanted.side }
     requires near { part.x + part.count < 2 ^ 32 }
     requires high { wanted.tile.y + part.row < 2 ^ 32 }
     requires inside { (i : ℕ) → i < part.count → filled.from + i * filled.step < length filled.medians.now }
@@ -155,7 +155,7 @@ fn push_alone<P: Grey>(
     part: Part,
 ) -> Result<(), NoMemory>
     requires few { length wanted.offsets.now < 2 ^ 16 }
-    requires square { wanted.offsets.now ≡ rows_from wanted.first wanted.side wanted.side }
+    requires square { wanted.offsets.now ≡ offset_rows wanted.first wanted.side wanted.side }
     requires near { part.x + part.count < 2 ^ 32 }
     requires high { wanted.tile.y + part.row < 2 ^ 32 }
     ensures { OnOk result (GainsRow P.level (λ i. ranked wanted.entry.k (levels_under P.level (seen_at wanted.entry.window.now) wanted.entry.offsets.now (part.x + i) (wanted.entry.tile.y + part.row))) part.count out.old.items out.new.items) }
@@ -178,7 +178,7 @@ fn push_side<P: Grey>(
     part: Part,
 ) -> Result<(), NoMemory>
     requires few { length wanted.offsets.now < 2 ^ 16 }
-    requires square { wanted.offsets.now ≡ rows_from wanted.first wanted.side wanted.side }
+    requires square { wanted.offsets.now ≡ offset_rows wanted.first wanted.side wanted.side }
     requires near { part.x + part.count < 2 ^ 32 }
     requires high { wanted.tile.y + part.row < 2 ^ 32 }
     requires long { part.row < rows }
@@ -224,7 +224,7 @@ fn push_inner<P: Vectored>(
     requires near { wanted.tile.x + wanted.tile.width ≤ 2 ^ 31 }
     requires inner { wanted.inner.first + wanted.inner.count ≤ wanted.tile.width }
     requires high { wanted.tile.y + row ≤ 2 ^ 31 }
-    requires square { wanted.offsets.now ≡ rows_from wanted.first wanted.side wanted.side }
+    requires square { wanted.offsets.now ≡ offset_rows wanted.first wanted.side wanted.side }
     requires median { IsMedian wanted.side wanted.k }
     ensures medians { OnOk result (GainsRow P.level (λ i. ranked wanted.entry.k (levels_under P.level (seen_at wanted.entry.window.now) wanted.entry.offsets.now (wanted.entry.tile.x + wanted.entry.inner.first + i) (wanted.entry.tile.y + row))) wanted.entry.inner.count out.old.items out.new.items) }
     ensures size { OnOk result (length piece.new ≡ length piece.old) }
@@ -292,7 +292,7 @@ fn push_row<P: Vectored>(
     requires near { wanted.tile.x + wanted.tile.width ≤ 2 ^ 31 }
     requires inner { wanted.inner.first + wanted.inner.count ≤ wanted.tile.width }
     requires high { wanted.tile.y + row ≤ 2 ^ 31 }
-    requires square { wanted.offsets.now ≡ rows_from wanted.first wanted.side wanted.side }
+    requires square { wanted.offsets.now ≡ offset_rows wanted.first wanted.side wanted.side }
     requires median { IsMedian wanted.side wanted.k }
     requires long { row < sides.length }
     requires left { 1 ≤ length sides.left.now → HasRows P.level (λ i r. filled_rank P.level P.top_level (seen_at wanted.window.now) wanted.first wanted.side wanted.k (wanted.tile.x + r) (wanted.tile.y + i)) sides.length wanted.inner.first sides.left.now }
@@ -350,7 +350,7 @@ fn column_medians<P: Vectored>(
     )
 }
 
-/// The same beside the inner columns. None are made of more columns than a square has that holds its origin.
+/// The medians of columns beside the inner ones. None are made of more columns than a square has that holds its origin.
 fn side_medians<P: Vectored>(
     wanted: Wanted<P>,
     x: u32,
@@ -380,7 +380,7 @@ fn median_samples<P: Vectored>(wanted: Wanted<P>) -> Result<Vec<P>, NoMemory>
     requires high { wanted.tile.y + wanted.tile.height ≤ 2 ^ 31 }
     requires wide { P.WIDTH ≤ wanted.inner.count }
     requires inner { wanted.inner.first + wanted.inner.count ≤ wanted.tile.width }
-    requires square { wanted.offsets.now ≡ rows_from wanted.first wanted.side wanted.side }
+    requires square { wanted.offsets.now ≡ offset_rows wanted.first wanted.side wanted.side }
     requires median { IsMedian wanted.side wanted.k }
     ensures { IfOk result (λ v. HasRows P.level (λ x y. ranked wanted.entry.k (levels_under P.level (seen_at wanted.entry.window.now) wanted.entry.offsets.now (wanted.entry.tile.x + x) (wanted.entry.tile.y + y))) wanted.entry.tile.width wanted.entry.tile.height v.items) }
 {
@@ -411,7 +411,7 @@ fn narrow_samples<P: Vectored>(wanted: Wanted<P>) -> Result<Vec<P>, NoMemory>
     requires few { length wanted.offsets.now < 2 ^ 16 }
     requires near { wanted.tile.x + wanted.tile.width ≤ 2 ^ 31 }
     requires high { wanted.tile.y + wanted.tile.height ≤ 2 ^ 31 }
-    requires square { wanted.offsets.now ≡ rows_from wanted.first wanted.side wanted.side }
+    requires square { wanted.offsets.now ≡ offset_rows wanted.first wanted.side wanted.side }
     requires median { IsMedian wanted.side wanted.k }
     ensures { IfOk result (λ v. HasRows P.level (λ x y. ranked wanted.entry.k (levels_under P.level (seen_at wanted.entry.window.now) wanted.entry.offsets.now (wanted.entry.tile.x + x) (wanted.entry.tile.y + y))) wanted.entry.tile.width wanted.entry.tile.height v.items) }
 {

@@ -9,7 +9,7 @@ use Rattle.mw_rank.specs.Ranks.{GainsRow, HasRows}
 use Rattle.mw_rank.proofs.Rows.{has_rows_more}
 use Rattle.mw_rank_numbers.specs.declared.numbering.Part.{Part}
 use Rattle.mw_rank_numbers.specs.LevelSets.{bit_in, below_in, IsBack, IsSummed}
-use Rattle.mw_rank_numbers.specs.Numbers.{level_in, IsNumbering}
+use Rattle.mw_rank_numbers.specs.Numbers.{level_in_part, IsNumbering}
 use Rattle.mw_rank_numbers.proofs.Sets.{below_less, bit_small, number_inside}
 
 pub before_end : (i n m : ℕ) → i < n → n < m → i < m
@@ -68,7 +68,7 @@ backs_more level top words samples levels a s number n here s-is number-is room 
 
 -- a sample of a row of a part
 pub part_level : {A : Type 0} (level : A → ℕ) (d : A) (w : View A) (part : Part) (row cells : List A) (i j y : ℕ) → part.column + part.width ≤ w.place.width → y ≡ part.row + j → row ≡ take (y * w.place.width + w.place.width - y * w.place.width) (drop (y * w.place.width) w.cells)
-    → cells ≡ take (part.column + part.width - part.column) (drop part.column row) → i < part.width → level (get_or cells i d) ≡ level_in level d w part i j
+    → cells ≡ take (part.column + part.width - part.column) (drop part.column row) → i < part.width → level (get_or cells i d) ≡ level_in_part level d w part i j
 part_level level d w part row cells i j y across y-is row-is cells-is lt =
     let width = w.place.width in
     ap (λ (l : List _). level (get_or l i d)) cells-is
@@ -78,14 +78,14 @@ part_level level d w part row cells i j y across y-is row-is cells-is lt =
     ∙ ap (λ (n : ℕ). level (get_or w.cells (n * width + (part.column + i)) d)) y-is
 
 -- all that is known of a part's numbers
-pub are_numbers : {A : Type 0} (level : A → ℕ) (d : A) (words : List ℕ) (levels : List A) (w : View A) (part : Part) (numbers : List ℕ) → bit_in words 0 ≡ 1 → IsBack level words levels 0 → ((i j : ℕ) → i < part.width → j < part.height → bit_in words (level_in level d w part i j) ≡ 1)
-    → ((i j : ℕ) → i < part.width → j < part.height → IsBack level words levels (level_in level d w part i j)) → HasRows (λ n. n) (λ i j. below_in words (level_in level d w part i j)) part.width part.height numbers → IsNumbering level d (below_in words) levels w part numbers
+pub are_numbers : {A : Type 0} (level : A → ℕ) (d : A) (words : List ℕ) (levels : List A) (w : View A) (part : Part) (numbers : List ℕ) → bit_in words 0 ≡ 1 → IsBack level words levels 0 → ((i j : ℕ) → i < part.width → j < part.height → bit_in words (level_in_part level d w part i j) ≡ 1)
+    → ((i j : ℕ) → i < part.width → j < part.height → IsBack level words levels (level_in_part level d w part i j)) → HasRows (λ n. n) (λ i j. below_in words (level_in_part level d w part i j)) part.width part.height numbers → IsNumbering level d (below_in words) levels w part numbers
 are_numbers level d words levels w part numbers lowest zero has back rows = record {
   lowest = refl;
   zero = record { above = λ t lt. below_less words 0 t lowest lt; back = zero };
   size = rows.size;
   each = λ i j across down. rows.made i j 0 across down;
-  numbered = λ i j across down. record { above = λ t lt. below_less words (level_in level d w part i j) t (has i j across down) lt; back = back i j across down };
+  numbered = λ i j across down. record { above = λ t lt. below_less words (level_in_part level d w part i j) t (has i j across down) lt; back = back i j across down };
 }
 
 -- in a list of the lowest level alone, that level stands at number 0

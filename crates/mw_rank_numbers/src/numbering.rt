@@ -3,7 +3,7 @@
 ghost use Rattle.std.specs.Prelude.{◌≡◌, ℕ, ◌+◌, ◌*◌, ◌<◌, ◌≤◌, length, map, slice_index, slice_index_or, slice_set, [], ◌++◌, IfOk, OnOk};
 ghost use Rattle.mw_rank.specs.Ranks.{GainsRow, HasRows};
 ghost use Rattle.mw_rank_numbers.specs.LevelSets.{set_words, bit_in, below_in, IsBack, IsSummed};
-ghost use Rattle.mw_rank_numbers.specs.Numbers.{level_in, IsNumbering};
+ghost use Rattle.mw_rank_numbers.specs.Numbers.{level_in_part, IsNumbering};
 
 use crate::level_set::{WORDS, mark, number_of, sums_of};
 use mw_model::NoMemory;
@@ -42,7 +42,7 @@ fn part_row<P: Grey>(window: &Window<P>, part: Part, j: u32) -> &[P]
     requires down { part.row + part.height ≤ window.now.place.height }
     requires row { j < part.height }
     ensures size { length result.now ≡ part.width }
-    ensures levels { (i : ℕ) → i < part.width → P.level (slice_index_or result.now i P.TOP) ≡ level_in P.level P.TOP window.now part i j }
+    ensures levels { (i : ℕ) → i < part.width → P.level (slice_index_or result.now i P.TOP) ≡ level_in_part P.level P.TOP window.now part i j }
 {
     // for the range of its rows
     let _place = window.place();
@@ -69,7 +69,7 @@ fn mark_part<P: Grey>(words: &mut [u64], window: &Window<P>, part: Part)
     requires across { part.column + part.width ≤ window.now.place.width }
     requires down { part.row + part.height ≤ window.now.place.height }
     ensures size { length words.new ≡ set_words }
-    ensures marked { (i j : ℕ) → i < part.width → j < part.height → bit_in words.new (level_in P.level P.TOP window.now part i j) ≡ 1 }
+    ensures marked { (i j : ℕ) → i < part.width → j < part.height → bit_in words.new (level_in_part P.level P.TOP window.now part i j) ≡ 1 }
     ensures lowest { bit_in words.new 0 ≡ 1 }
 {
     mark(words, 0);
@@ -122,13 +122,13 @@ fn number_part<P: Grey>(
     requires down { part.row + part.height ≤ window.now.place.height }
     requires size { length order.words.now ≡ set_words }
     requires summed { IsSummed order.words.now order.before.now (length levels.old) }
-    requires marked { (i j : ℕ) → i < part.width → j < part.height → bit_in order.words.now (level_in P.level P.TOP window.now part i j) ≡ 1 }
+    requires marked { (i j : ℕ) → i < part.width → j < part.height → bit_in order.words.now (level_in_part P.level P.TOP window.now part i j) ≡ 1 }
     requires lowest { bit_in order.words.now 0 ≡ 1 }
     requires zero { IsBack P.level order.words.now levels.old 0 }
     requires empty { numbers.old.items ≡ [] }
     ensures size { length levels.new ≡ length levels.old }
-    ensures numbers { OnOk result (HasRows (λ n. n) (λ i j. below_in order.entry.words.now (level_in P.level P.TOP window.now part i j)) part.width part.height numbers.new.items) }
-    ensures back { OnOk result ((i j : ℕ) → i < part.width → j < part.height → IsBack P.level order.entry.words.now levels.new (level_in P.level P.TOP window.now part i j)) }
+    ensures numbers { OnOk result (HasRows (λ n. n) (λ i j. below_in order.entry.words.now (level_in_part P.level P.TOP window.now part i j)) part.width part.height numbers.new.items) }
+    ensures back { OnOk result ((i j : ℕ) → i < part.width → j < part.height → IsBack P.level order.entry.words.now levels.new (level_in_part P.level P.TOP window.now part i j)) }
     ensures zero { OnOk result (IsBack P.level order.entry.words.now levels.new 0) }
 {
     for j in 0..part.height {
@@ -142,7 +142,7 @@ fn set_of<P: Grey>(alloc: Global, window: &Window<P>, part: Part) -> Result<Vec<
     requires across { part.column + part.width ≤ window.now.place.width }
     requires down { part.row + part.height ≤ window.now.place.height }
     ensures size { IfOk result (λ v. length v.items ≡ set_words) }
-    ensures marked { IfOk result (λ v. (i j : ℕ) → i < part.width → j < part.height → bit_in v.items (level_in P.level P.TOP window.now part i j) ≡ 1) }
+    ensures marked { IfOk result (λ v. (i j : ℕ) → i < part.width → j < part.height → bit_in v.items (level_in_part P.level P.TOP window.now part i j) ≡ 1) }
     ensures lowest { IfOk result (λ v. bit_in v.items 0 ≡ 1) }
 {
     let mut set = vec![in alloc; 0u64; WORDS]?;

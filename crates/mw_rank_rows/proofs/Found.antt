@@ -7,7 +7,7 @@ use Rattle.std.proofs.lemmas.List.{get_or_append_left, get_or-append-add, get_or
 use Rattle.std.proofs.lemmas.Nat.{mul-add-lt}
 use Rattle.std.proofs.Math.Nat.{mul-le-mul_right}
 use Rattle.std.proofs.lemmas.Option.{slice_get-get_or, slice_get_past}
-use Rattle.mw_model.specs.declared.places.Offset.{Offset}
+use Rattle.mw_model.specs.declared.offsets.Offset.{Offset}
 use Rattle.mw_model.specs.PlanSteps.{ranked}
 use Rattle.mw_model.specs.Rasters.{raster, cell_at}
 use Rattle.mw_model.specs.Windows.{View, seen_at}
@@ -18,7 +18,7 @@ use Rattle.mw_rank_counts.specs.mw_rank.Tallies.{count_under}
 use Rattle.mw_rank_counts.proofs.mw_rank.Counts.{count-append, count-cons, count-zero, one-lt}
 use Rattle.mw_rank_counts.proofs.mw_rank.Sights.{levels-cons, length-levels}
 use Rattle.mw_rank_rows.specs.declared.rectangle.Rectangle.{Rectangle}
-use Rattle.mw_rank_rows.specs.Rectangles.{offsets_in}
+use Rattle.mw_rank_rows.specs.Rectangles.{offsets_of_rows}
 use Rattle.mw_rank_rows.specs.Tables.{HasFound}
 use Rattle.mw_rank_rows.proofs.Rectangular.{seen_below, seen_whole}
 use Rattle.mw_rank_rows.proofs.Views.{add-mul}
@@ -71,17 +71,17 @@ ranked_at (s ∷ ns) k number n level number-is short n-is few enough =
     )
 
 -- what is found of eight rows are their ranks
-pub found_ranked : {A : Type 0} (level : A → ℕ) (d : A) (w : View A) (t : Rectangle) (levels k number x y width : ℕ) (made : List A) → AllUnder level d w.cells levels → length (offsets_in t t.rows) < 65536 → number ≡ max 1 (min k 65535)
-    → HasFound level levels (seen_below level (seen_at w) t y) t.columns number x width width made → (r q : ℕ) (e : A) → r < 8 → q < width → level (get_or made (r * width + q) e) ≡ ranked k (levels_under level (seen_at w) (offsets_in t t.rows) (x + q) (y + r))
+pub found_ranked : {A : Type 0} (level : A → ℕ) (d : A) (w : View A) (t : Rectangle) (levels k number x y width : ℕ) (made : List A) → AllUnder level d w.cells levels → length (offsets_of_rows t t.rows) < 65536 → number ≡ max 1 (min k 65535)
+    → HasFound level levels (seen_below level (seen_at w) t y) t.columns number x width width made → (r q : ℕ) (e : A) → r < 8 → q < width → level (get_or made (r * width + q) e) ≡ ranked k (levels_under level (seen_at w) (offsets_of_rows t t.rows) (x + q) (y + r))
 found_ranked level d w t levels k number x y width made under few number-is found r q e down lt =
-    let ns = levels_under level (seen_at w) (offsets_in t t.rows) (x + q) (y + r) in
+    let ns = levels_under level (seen_at w) (offsets_of_rows t t.rows) (x + q) (y + r) in
     let same : (v : ℕ) → seen_below level (seen_at w) t y v (x + q) t.columns (7 - r) ≡ count_under v ns = λ v.
-    sym (seen_whole level (seen_at w) t v (x + q) (y + (7 - (7 - r))) t.rows) ∙ ap (λ (n : ℕ). count_under v (levels_under level (seen_at w) (offsets_in t t.rows) (x + q) (y + n))) (let back : 7 - (7 - r) ≡ r = omega arith in back) in
+    sym (seen_whole level (seen_at w) t v (x + q) (y + (7 - (7 - r))) t.rows) ∙ ap (λ (n : ℕ). count_under v (levels_under level (seen_at w) (offsets_of_rows t t.rows) (x + q) (y + n))) (let back : 7 - (7 - r) ≡ r = omega arith in back) in
     let s = level (get_or made (r * width + q) e) in
     let here = found r q e down lt in
-    let all : seen_below level (seen_at w) t y levels (x + q) t.columns (7 - r) ≡ length ns = same levels ∙ levels_within level d w levels (x + q) (y + r) (offsets_in t t.rows) under in
+    let all : seen_below level (seen_at w) t y levels (x + q) t.columns (7 - r) ≡ length ns = same levels ∙ levels_within level d w levels (x + q) (y + r) (offsets_of_rows t t.rows) under in
     ranked_at ns k number (min number (seen_below level (seen_at w) t y levels (x + q) t.columns (7 - r))) s number-is
-    (omega (arith, length-levels level (seen_at w) (offsets_in t t.rows) (x + q) (y + r))) (ap (min number) all)
+    (omega (arith, length-levels level (seen_at w) (offsets_of_rows t t.rows) (x + q) (y + r))) (ap (min number) all)
     (elim here.few [
       | inl less ↦ inl (omega (arith, less, same s))
       | inr lowest ↦ inr lowest

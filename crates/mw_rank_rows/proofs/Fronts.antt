@@ -4,7 +4,7 @@ use Rattle.std.specs.Prelude.{nat_lt, IsTrue}
 use Rattle.std.proofs.lemmas.Bool.{cases_lt, lt-ltb, le-ltb}
 use Rattle.mw_rank_rows.specs.Lanes.{Counts, IsFound}
 
--- the same counters, with another front
+-- the counters hold, with another front
 pub counts_at : (levels : ℕ) (u : ℕ → ℕ → ℕ) (counts : List ℕ) (level l : ℕ) (below b : List ℕ) → l < levels → length b ≡ 8 → ((j : ℕ) → j < 8 → get_or b j 0 ≡ u l j) → Counts levels u counts level below → Counts levels u counts l b
 counts_at levels u counts level l below b inside lanes under t = record { short = t.short; size = t.size; each = t.each; none = t.none; few = t.few; inside = inside; lanes = lanes; under = under }
 

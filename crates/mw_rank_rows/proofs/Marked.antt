@@ -5,7 +5,7 @@ use Rattle.std.proofs.lemmas.Bool.{cases_lt, cases_order, lt-ltb, le-ltb}
 use Rattle.std.proofs.lemmas.List.{get_or_default}
 use Rattle.mw_model.proofs.mw_facts.Numbers.{one_if}
 use Rattle.mw_rank_rows.specs.Columns.{column_count}
-use Rattle.mw_rank_rows.specs.Lanes.{Counts, Rises}
+use Rattle.mw_rank_rows.specs.Lanes.{Counts, CountsRise}
 use Rattle.mw_rank_rows.proofs.Fronts.{rises, small}
 use Rattle.mw_rank_rows.proofs.Sums.{total-more}
 
@@ -70,7 +70,7 @@ entered levels u w counts new level s below b here sums marks add lt p sums-are 
 
 pub left : (levels : ℕ) (u w : ℕ → ℕ → ℕ) (counts new : List ℕ) (level s : ℕ) (below b here rest marks less : List ℕ) → s < levels → IsPut s counts new here rest
     → ((j : ℕ) → j < 8 → get_or marks j 0 ≤ get_or here j 0 → get_or here j 0 < 65536 → get_or rest j 0 + get_or marks j 0 ≡ get_or here j 0) → length b ≡ 8 → ((j : ℕ) → j < 8 → get_or marks j 0 < 65536 → get_or less j 0 ≡ get_or marks j 0 * cond (nat_lt s level) 1 0)
-    → ((j : ℕ) → j < 8 → get_or less j 0 ≤ get_or below j 0 → get_or below j 0 < 65536 → get_or b j 0 + get_or less j 0 ≡ get_or below j 0) → IsMore s marks w u → Rises w → Counts levels u counts level below → Counts levels w new level b
+    → ((j : ℕ) → j < 8 → get_or less j 0 ≤ get_or below j 0 → get_or below j 0 < 65536 → get_or b j 0 + get_or less j 0 ≡ get_or below j 0) → IsMore s marks w u → CountsRise w → Counts levels u counts level below → Counts levels w new level b
 left levels u w counts new level s below b here rest marks less lt p rest-is lanes less-is b-is more up t = record {
   short = t.short;
   size = omega (arith, p.size, t.size);
@@ -108,7 +108,7 @@ left levels u w counts new level s below b here rest marks less lt p rest-is lan
       ];
 }
 
--- the same numbers of samples, said in another way
+-- the counters hold, where the numbers of samples are said in another way
 pub counts_same : (levels : ℕ) (u w : ℕ → ℕ → ℕ) (counts : List ℕ) (level : ℕ) (below : List ℕ) → ((v j : ℕ) → j < 8 → w v j ≡ u v j) → Counts levels u counts level below → Counts levels w counts level below
 counts_same levels u w counts level below same t = record {
   short = t.short;
@@ -137,7 +137,7 @@ pub leaves_more : {A : Type 0} (level : A → ℕ) (d : A) (samples : List A) (w
     → ((v j : ℕ) → j < 8 → u v j ≡ w v j + column_count level d samples width at marks v j (i + 1)) → (v j : ℕ) → j < 8 → u v j ≡ w v j + get_or lanes j 0 * cond (nat_lt s v) 1 0 + column_count level d samples width at marks v j i
 leaves_more level d samples width at marks lanes i s u w lanes-are s-is more v j lt = omega (arith, more v j lt, column_more level d samples width at marks lanes v j i s (lanes-are j lt) s-is)
 
-pub rises_more : (s : ℕ) (lanes : List ℕ) (w : ℕ → ℕ → ℕ) → Rises w → Rises (λ v j. w v j + get_or lanes j 0 * cond (nat_lt s v) 1 0)
+pub rises_more : (s : ℕ) (lanes : List ℕ) (w : ℕ → ℕ → ℕ) → CountsRise w → CountsRise (λ v j. w v j + get_or lanes j 0 * cond (nat_lt s v) 1 0)
 rises_more s lanes w up = λ v j.
     let m = get_or lanes j 0 in
     elim (cases_lt s v) [

@@ -6,8 +6,8 @@ use Rattle.std.proofs.lemmas.Int.{ints}
 use Rattle.std.proofs.lemmas.List.{get_or_default, get_or-map, length-map}
 use Rattle.std.proofs.lemmas.Nat.{mul-add-lt}
 use Rattle.std.proofs.Math.Nat.{mul-le-mul_right}
-use Rattle.mw_model.specs.declared.places.Offset.{Offset}
-use Rattle.mw_model.specs.declared.places.Rect.{Rect}
+use Rattle.mw_model.specs.declared.offsets.Offset.{Offset}
+use Rattle.mw_model.specs.declared.offsets.Rect.{Rect}
 use Rattle.mw_model.specs.PlanSteps.{ranked}
 use Rattle.mw_model.specs.Rasters.{Sight}
 use Rattle.mw_model.specs.Windows.{View, seen_at}
@@ -15,28 +15,28 @@ use Rattle.mw_rank_counts.specs.mw_rank.Ranks.{levels_under, HasRows}
 use Rattle.mw_rank_counts.specs.mw_rank.Runs.{offsets_from}
 use Rattle.mw_rank_counts.proofs.mw_rank.Sights.{levels-append, seen_inside}
 use Rattle.mw_rank_numbers.specs.declared.numbering.Part.{Part}
-use Rattle.mw_rank_numbers.specs.Numbers.{level_in, IsNumbering}
+use Rattle.mw_rank_numbers.specs.Numbers.{level_in_part, IsNumbering}
 use Rattle.mw_rank_numbers.proofs.Ranked.{AreNumbers, SeesNumbers, no_numbers, numbers_append, row_numbers, rank_back}
 use Rattle.mw_rank_rows.specs.declared.rectangle.Rectangle.{Rectangle}
 use Rattle.mw_rank_rows.specs.declared.group.Shown.{Shown}
-use Rattle.mw_rank_rows.specs.Blocks.{ShowsPart, IsPart, HasColumns, shown}
-use Rattle.mw_rank_rows.specs.Rectangles.{row_start, offsets_in, IsRectangle, IsShown}
+use Rattle.mw_rank_rows.specs.Blocks.{ShowsPart, IsPart, HasColumns, shown_of_parts}
+use Rattle.mw_rank_rows.specs.Rectangles.{row_start, offsets_of_rows, IsRectangle, AreRowsShown}
 use Rattle.mw_rank_rows.proofs.Views.{unseen_row, unseen_column}
 
 -- the numbers under all offsets of a rectangle
 rectangle_numbers : {A : Type 0} (level : A → ℕ) (number : ℕ → ℕ) (levels : List A) (sight : Sight A) (seen : Sight ℕ) (t : Rectangle) (n x y : ℕ) → ((r i : ℕ) → r < n → i < t.columns → SeesNumbers level number levels sight seen (pos x +ℤ (t.dx +ℤ pos i)) (pos y +ℤ (t.dy +ℤ pos r)))
-    → AreNumbers level number levels (levels_under (λ (s : ℕ). s) seen (offsets_in t n) x y) (levels_under level sight (offsets_in t n) x y)
+    → AreNumbers level number levels (levels_under (λ (s : ℕ). s) seen (offsets_of_rows t n) x y) (levels_under level sight (offsets_of_rows t n) x y)
 rectangle_numbers level number levels sight seen t zero x y sees = no_numbers level number levels
 rectangle_numbers level number levels sight seen t (suc n) x y sees =
     let row = offsets_from (row_start t n) t.columns in
     let before = rectangle_numbers level number levels sight seen t n x y (λ r i less lt. sees r i (omega arith) lt) in
     let more = row_numbers level number levels sight seen (row_start t n) t.columns x y (λ i lt. sees n i (omega arith) lt) in
-    let both = numbers_append level number levels (levels_under (λ (s : ℕ). s) seen (offsets_in t n) x y) (levels_under level sight (offsets_in t n) x y) (levels_under (λ (s : ℕ). s) seen row x y) (levels_under level sight row x y) before more in
-    subst (λ (l : List ℕ). AreNumbers level number levels l (levels_under level sight (offsets_in t (suc n)) x y)) (sym (levels-append (λ (s : ℕ). s) seen (offsets_in t n) row x y))
-    (subst (λ (l : List ℕ). AreNumbers level number levels (levels_under (λ (s : ℕ). s) seen (offsets_in t n) x y ++ levels_under (λ (s : ℕ). s) seen row x y) l) (sym (levels-append level sight (offsets_in t n) row x y)) both)
+    let both = numbers_append level number levels (levels_under (λ (s : ℕ). s) seen (offsets_of_rows t n) x y) (levels_under level sight (offsets_of_rows t n) x y) (levels_under (λ (s : ℕ). s) seen row x y) (levels_under level sight row x y) before more in
+    subst (λ (l : List ℕ). AreNumbers level number levels l (levels_under level sight (offsets_of_rows t (suc n)) x y)) (sym (levels-append (λ (s : ℕ). s) seen (offsets_of_rows t n) row x y))
+    (subst (λ (l : List ℕ). AreNumbers level number levels (levels_under (λ (s : ℕ). s) seen (offsets_of_rows t n) x y ++ levels_under (λ (s : ℕ). s) seen row x y) l) (sym (levels-append level sight (offsets_of_rows t n) row x y)) both)
 
 -- a column that results look at is one of the part, or one that the window lacks
-shown_or : (top : ℤ) (count height : ℕ) (s : Shown) (m : ℕ) (c : ℤ) → IsShown top count height s → m < count → c ≡ top +ℤ pos m → ((i : ℕ) × (i < s.rows) × (c ≡ pos (s.first + i))) ⊎ ((r : ℕ) → r < height → c ≡ pos r → ⊥)
+shown_or : (top : ℤ) (count height : ℕ) (s : Shown) (m : ℕ) (c : ℤ) → AreRowsShown top count height s → m < count → c ≡ top +ℤ pos m → ((i : ℕ) × (i < s.rows) × (c ≡ pos (s.first + i))) ⊎ ((r : ℕ) → r < height → c ≡ pos r → ⊥)
 shown_or top count height s m c is lt c-is =
     elim (cases_lt m s.skip) [
       | inl early ↦ inr (λ r inside here. is.early m r early inside (sym c-is ∙ here))
@@ -62,7 +62,7 @@ seen_both : {A : Type 0} (level : A → ℕ) (d : A) (number : ℕ → ℕ) (lev
 seen_both level d number levels w n part c r i j has across down c-is r-is =
     let p = (part.row + j) * w.place.width + (part.column + i) in
     let q = j * n.place.width + i in
-    let v = level_in level d w part i j in
+    let v = level_in_part level d w part i j in
     let place = has.place in
     let numbered = has.numbering in
     let size : length n.cells ≡ n.place.height * n.place.width = numbered.size ∙ (let wide = place.width in let high = place.height in sym (ap (λ (h : ℕ). h * n.place.width) high ∙ ap (λ (m : ℕ). part.height * m) wide)) in
@@ -82,15 +82,15 @@ seen_both level d number levels w n part c r i j has across down c-is r-is =
 
 -- what a block of results sees of the numbers are those of what it sees of the levels
 block_numbers : {A : Type 0} (level : A → ℕ) (d : A) (number : ℕ → ℕ) (levels : List A) (w : View A) (n : View ℕ) (t : Rectangle) (place : Rect) (part : Part) (x y : ℕ) → HasNumbers level d number levels w n part → ShowsPart w.place t place part → x < place.width → y < place.height
-    → AreNumbers level number levels (levels_under (λ (s : ℕ). s) (seen_at n) (offsets_in t t.rows) (place.x + x) (place.y + y)) (levels_under level (seen_at w) (offsets_in t t.rows) (place.x + x) (place.y + y))
+    → AreNumbers level number levels (levels_under (λ (s : ℕ). s) (seen_at n) (offsets_of_rows t t.rows) (place.x + x) (place.y + y)) (levels_under level (seen_at w) (offsets_of_rows t t.rows) (place.x + x) (place.y + y))
 block_numbers level d number levels w n t place part x y has shows lt less =
     rectangle_numbers level number levels (seen_at w) (seen_at n) t t.rows (place.x + x) (place.y + y)
     (λ r i down across.
     let c = pos (place.x + x) +ℤ (t.dx +ℤ pos i) in
     let b = pos (place.y + y) +ℤ (t.dy +ℤ pos r) in
-    elim (shown_or (pos place.x +ℤ t.dx -ℤ pos w.place.x) (place.width + t.columns - 1) w.place.width (shown shows.left part.column part.width) (x + i) (c -ℤ pos w.place.x) shows.columns (omega arith) (omega (arith, ints))) [
+    elim (shown_or (pos place.x +ℤ t.dx -ℤ pos w.place.x) (place.width + t.columns - 1) w.place.width (shown_of_parts shows.left part.column part.width) (x + i) (c -ℤ pos w.place.x) shows.columns (omega arith) (omega (arith, ints))) [
       | inr none ↦ none_seen level number levels (seen_at w c b) (seen_at n c b) (unseen_column w.place.width w.place.height w.cells (c -ℤ pos w.place.x) (b -ℤ pos w.place.y) none) (lacks_column c b none)
-      | inl seen ↦ elim (shown_or (pos place.y +ℤ t.dy -ℤ pos w.place.y) (place.height + t.rows - 1) w.place.height (shown shows.above part.row part.height) (y + r) (b -ℤ pos w.place.y) shows.rows (omega arith) (omega (arith, ints))) [
+      | inl seen ↦ elim (shown_or (pos place.y +ℤ t.dy -ℤ pos w.place.y) (place.height + t.rows - 1) w.place.height (shown_of_parts shows.above part.row part.height) (y + r) (b -ℤ pos w.place.y) shows.rows (omega arith) (omega (arith, ints))) [
         | inr none ↦ none_seen level number levels (seen_at w c b) (seen_at n c b) (unseen_row w.place.width w.place.height w.cells (c -ℤ pos w.place.x) (b -ℤ pos w.place.y) none) (lacks_row c b none)
         | inl also ↦ seen_both level d number levels w n part c b seen.0 also.0 has seen.1 also.1 seen.2 also.2
       ]
@@ -119,11 +119,11 @@ block_ranked level d number levels w n t place part offsets k ranks none made si
       made = λ x y e lt less.
           let p = y * place.width + x in
           let inside : p < length ranks = omega (arith, rows.size, mul-add-lt y place.width x place.height less lt) in
-          let rank-is : get_or ranks p 0 ≡ ranked k (levels_under (λ (s : ℕ). s) (seen_at n) (offsets_in t t.rows) (place.x + x) (place.y + y)) =
+          let rank-is : get_or ranks p 0 ≡ ranked k (levels_under (λ (s : ℕ). s) (seen_at n) (offsets_of_rows t t.rows) (place.x + x) (place.y + y)) =
           rows.made x y 0 lt less ∙ ap (λ (l : List Offset). ranked k (levels_under (λ (s : ℕ). s) (seen_at n) l (place.x + x) (place.y + y))) (sym rectangle.is) in
           ap (λ (l : List _). level (get_or l p e)) is
           ∙ ap level (get_or-map back ranks p 0 e inside)
-          ∙ rank_back level number levels (levels_under (λ (s : ℕ). s) (seen_at n) (offsets_in t t.rows) (place.x + x) (place.y + y)) (levels_under level (seen_at w) (offsets_in t t.rows) (place.x + x) (place.y + y)) k (get_or ranks p 0) d numbering.lowest numbering.zero (block_numbers level d number levels w n t place part x y has shows lt less) rank-is
+          ∙ rank_back level number levels (levels_under (λ (s : ℕ). s) (seen_at n) (offsets_of_rows t t.rows) (place.x + x) (place.y + y)) (levels_under level (seen_at w) (offsets_of_rows t t.rows) (place.x + x) (place.y + y)) k (get_or ranks p 0) d numbering.lowest numbering.zero (block_numbers level d number levels w n t place part x y has shows lt less) rank-is
           ∙ ap (λ (l : List Offset). ranked k (levels_under level (seen_at w) l (place.x + x) (place.y + y))) rectangle.is;
     }
 
@@ -192,6 +192,6 @@ rows_left out new width from columns j across others x k d lt =
     ]
 
 -- what is shown, by the numbers that the code has at hand
-pub shown_here : (top here : ℤ) (count many height high : ℕ) (s : Shown) → here ≡ top → many ≡ count → high ≡ height → IsShown here many high s → IsShown top count height (shown s.skip s.first s.rows)
+pub shown_here : (top here : ℤ) (count many height high : ℕ) (s : Shown) → here ≡ top → many ≡ count → high ≡ height → AreRowsShown here many high s → AreRowsShown top count height (shown_of_parts s.skip s.first s.rows)
 shown_here top here count many height high s top-is count-is height-is is =
-    subst (λ (n : ℕ). IsShown top count n s) height-is (subst (λ (n : ℕ). IsShown top n high s) count-is (subst (λ (z : ℤ). IsShown z many high s) top-is is))
+    subst (λ (n : ℕ). AreRowsShown top count n s) height-is (subst (λ (n : ℕ). AreRowsShown top n high s) count-is (subst (λ (z : ℤ). AreRowsShown z many high s) top-is is))

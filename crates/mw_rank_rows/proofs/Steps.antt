@@ -8,7 +8,7 @@ use Rattle.mw_rank_rows.specs.declared.lanes.Lanes.{Lanes}
 use Rattle.mw_rank_rows.specs.declared.search.Front.{Front}
 use Rattle.mw_rank_rows.specs.declared.slide.Strip.{Strip}
 use Rattle.mw_rank_rows.specs.Lanes.{Counts, IsFound}
-use Rattle.mw_rank_rows.specs.Tables.{Holds, ShowsColumns, Slides, HasFound}
+use Rattle.mw_rank_rows.specs.Tables.{LanesHold, ShowsColumns, ColumnsSlide, HasFound}
 use Rattle.mw_rank_rows.proofs.Marked.{counts_same}
 use Rattle.mw_rank_rows.proofs.Sums.{total-same}
 
@@ -26,8 +26,8 @@ column_whole level d levels column strip all x at j lt across is s =
     ∙ (let e : get_or marks (i + j) 0 * 1 ≡ get_or marks (i + j) 0 = omega arith in e))
     ∙ sym (s.every j lt)
 
--- the same numbers of samples, said in another way
-pub holds_same : (levels : ℕ) (u w : ℕ → ℕ → ℕ) (counts : List ℕ) (l : Lanes) → ((v j : ℕ) → j < 8 → w v j ≡ u v j) → Holds levels u counts l → Holds levels w counts l
+-- the counters hold, where the numbers of samples are said in another way
+pub holds_same : (levels : ℕ) (u w : ℕ → ℕ → ℕ) (counts : List ℕ) (l : Lanes) → ((v j : ℕ) → j < 8 → w v j ≡ u v j) → LanesHold levels u counts l → LanesHold levels w counts l
 holds_same levels u w counts l same t = record {
   table = counts_same levels u w counts l.front.level l.front.below same t.table;
   lanes = t.lanes;
@@ -74,21 +74,21 @@ found_more level levels seen columns k x width i old new lanes n lt others put n
       subst (λ (p : ℕ). IsFound levels (λ v j. seen v (x + p) columns j) (min k (seen levels (x + p) columns (7 - r))) (7 - r) (level (get_or new (r * width + p) e))) here found-here
 ]
 
--- the same columns, said in another way
-pub seen_from : (levels : ℕ) (seen : ℕ → ℕ → ℕ → ℕ → ℕ) (counts : List ℕ) (l : Lanes) (x y n m : ℕ) → x ≡ y → n ≡ m → Holds levels (λ v j. seen v x n j) counts l → Holds levels (λ v j. seen v y m j) counts l
-seen_from levels seen counts l x y n m from count t = subst (λ (p : ℕ). Holds levels (λ v j. seen v p m j) counts l) from (subst (λ (p : ℕ). Holds levels (λ v j. seen v x p j) counts l) count t)
+-- the counters hold, where the columns are said in another way
+pub seen_from : (levels : ℕ) (seen : ℕ → ℕ → ℕ → ℕ → ℕ) (counts : List ℕ) (l : Lanes) (x y n m : ℕ) → x ≡ y → n ≡ m → LanesHold levels (λ v j. seen v x n j) counts l → LanesHold levels (λ v j. seen v y m j) counts l
+seen_from levels seen counts l x y n m from count t = subst (λ (p : ℕ). LanesHold levels (λ v j. seen v p m j) counts l) from (subst (λ (p : ℕ). LanesHold levels (λ v j. seen v x p j) counts l) count t)
 
 -- the front moves, and the lanes keep their samples
-pub held_front : (levels : ℕ) (u : ℕ → ℕ → ℕ) (counts : List ℕ) (l : Lanes) (f : Front) → Counts levels u counts f.level f.below → Holds levels u counts l → Holds levels u counts (record { front = f; held = l.held })
+pub held_front : (levels : ℕ) (u : ℕ → ℕ → ℕ) (counts : List ℕ) (l : Lanes) (f : Front) → Counts levels u counts f.level f.below → LanesHold levels u counts l → LanesHold levels u counts (record { front = f; held = l.held })
 held_front levels u counts l f table t = record { table = table; lanes = t.lanes; held = t.held }
 
 -- the first column is taken back
-pub step_left : (columns : ℕ) (column : ℕ → ℕ → ℕ → ℕ) (seen : ℕ → ℕ → ℕ → ℕ → ℕ) (p x v j : ℕ) → 1 ≤ columns → x ≡ p → Slides columns column seen → seen v p columns j ≡ seen v (p + 1) (columns - 1) j + column v x j
+pub step_left : (columns : ℕ) (column : ℕ → ℕ → ℕ → ℕ) (seen : ℕ → ℕ → ℕ → ℕ → ℕ) (p x v j : ℕ) → 1 ≤ columns → x ≡ p → ColumnsSlide columns column seen → seen v p columns j ≡ seen v (p + 1) (columns - 1) j + column v x j
 step_left columns column seen p x v j some x-is s =
     ap (λ (m : ℕ). seen v p m j) (let e : columns ≡ columns - 1 + 1 = omega arith in e) ∙ s.leaves v p (columns - 1) j ∙ omega (arith, ap (λ (q : ℕ). column v q j) x-is)
 
 -- the next column is counted
-pub step_entered : (columns : ℕ) (column : ℕ → ℕ → ℕ → ℕ) (seen : ℕ → ℕ → ℕ → ℕ → ℕ) (p x v j : ℕ) → 1 ≤ columns → x ≡ p + columns → Slides columns column seen → seen v (p + 1) columns j ≡ seen v (p + 1) (columns - 1) j + column v x j
+pub step_entered : (columns : ℕ) (column : ℕ → ℕ → ℕ → ℕ) (seen : ℕ → ℕ → ℕ → ℕ → ℕ) (p x v j : ℕ) → 1 ≤ columns → x ≡ p + columns → ColumnsSlide columns column seen → seen v (p + 1) columns j ≡ seen v (p + 1) (columns - 1) j + column v x j
 step_entered columns column seen p x v j some x-is s =
     ap (λ (m : ℕ). seen v (p + 1) m j) (let e : columns ≡ columns - 1 + 1 = omega arith in e)
     ∙ s.enters v (p + 1) (columns - 1) j

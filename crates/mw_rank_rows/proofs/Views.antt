@@ -9,7 +9,7 @@ use Rattle.std.proofs.lemmas.List.{get_or-take, get_or-drop, get_or_default, get
 use Rattle.std.proofs.lemmas.Nat.{mul-add-lt}
 use Rattle.std.proofs.Math.Nat.{mul-le-mul_right}
 use Rattle.mw_model.proofs.mw_facts.Numbers.{one_if, one_if-le}
-use Rattle.mw_model.specs.declared.places.Rect.{Rect}
+use Rattle.mw_model.specs.declared.offsets.Rect.{Rect}
 use Rattle.mw_model.specs.Rasters.{Sight, raster, cell_at}
 use Rattle.mw_model.specs.Windows.{View, seen_at}
 use Rattle.mw_rank_counts.proofs.mw_pixel.Cells.{cell_at-right, cell_at-below}
@@ -22,7 +22,7 @@ use Rattle.mw_rank_rows.specs.declared.group.Shown.{Shown}
 use Rattle.mw_rank_rows.specs.declared.rectangle.Rectangle.{Rectangle}
 use Rattle.mw_rank_rows.specs.declared.slide.Strip.{Strip}
 use Rattle.mw_rank_rows.specs.Columns.{total, column_count}
-use Rattle.mw_rank_rows.specs.Rectangles.{row_start, AreMarks, IsShown}
+use Rattle.mw_rank_rows.specs.Rectangles.{row_start, AreLaneMarks, AreRowsShown}
 use Rattle.mw_rank_rows.specs.Tables.{ShowsColumns}
 use Rattle.mw_rank_rows.proofs.Rectangular.{column_below}
 use Rattle.mw_rank_rows.proofs.Sums.{total-same, total-none, total-part}
@@ -54,19 +54,19 @@ unseen_column width height cells (pos x) (pos r) none = elim (cases_lt x width) 
 none_counted : {A : Type 0} (level : A → ℕ) (v : ℕ) (o : Option A) → o ≡ None → count_under v (map level (option_to_list o)) ≡ 0
 none_counted level v o none = ap (λ (p : Option _). count_under v (map level (option_to_list p))) none
 
-mark_inside : (rows : ℕ) (marks : List ℕ) (p : ℕ) → AreMarks rows marks → 7 ≤ p → p < rows + 7 → get_or marks p 0 ≡ 1
+mark_inside : (rows : ℕ) (marks : List ℕ) (p : ℕ) → AreLaneMarks rows marks → 7 ≤ p → p < rows + 7 → get_or marks p 0 ≡ 1
 mark_inside rows marks p are low high = are.each p (omega arith) ∙ inside rows p low high
   where
     inside : (rows p : ℕ) → 7 ≤ p → p < rows + 7 → ◌≡◌ {A = ℕ} (cond (nat_le 7 p && nat_lt p (rows + 7)) 1 0) 1
     inside rows p low high = grind (arith, nat_tests)
 
-mark_before : (rows : ℕ) (marks : List ℕ) (p : ℕ) → AreMarks rows marks → p < 7 → get_or marks p 0 ≡ 0
+mark_before : (rows : ℕ) (marks : List ℕ) (p : ℕ) → AreLaneMarks rows marks → p < 7 → get_or marks p 0 ≡ 0
 mark_before rows marks p are low = are.each p (omega arith) ∙ before rows p low
   where
     before : (rows p : ℕ) → p < 7 → ◌≡◌ {A = ℕ} (cond (nat_le 7 p && nat_lt p (rows + 7)) 1 0) 0
     before rows p low = grind (arith, nat_tests)
 
-mark_after : (rows : ℕ) (marks : List ℕ) (p : ℕ) → AreMarks rows marks → rows + 7 ≤ p → p < rows + 14 → get_or marks p 0 ≡ 0
+mark_after : (rows : ℕ) (marks : List ℕ) (p : ℕ) → AreLaneMarks rows marks → rows + 7 ≤ p → p < rows + 14 → get_or marks p 0 ≡ 0
 mark_after rows marks p are high within = are.each p within ∙ after rows p high
   where
     after : (rows p : ℕ) → rows + 7 ≤ p → ◌≡◌ {A = ℕ} (cond (nat_le 7 p && nat_lt p (rows + 7)) 1 0) 0
@@ -80,7 +80,7 @@ row_moved : {A : Type 0} (level : A → ℕ) (sight : Sight A) (t : Rectangle) (
 row_moved level sight t x y v n r = ap (λ (p : ℤ). count_under v (map level (option_to_list (sight (pos x +ℤ t.dx) p)))) (let e : pos (y + n) +ℤ (t.dy +ℤ pos r) ≡ pos y +ℤ (t.dy +ℤ pos (n + r)) = omega (arith, ints) in e)
 
 -- what a lane sees, by the marks of all rows
-column_marked : {A : Type 0} (level : A → ℕ) (sight : Sight A) (t : Rectangle) (x y v j : ℕ) (marks : List ℕ) → j < 8 → AreMarks t.rows marks
+column_marked : {A : Type 0} (level : A → ℕ) (sight : Sight A) (t : Rectangle) (x y v j : ℕ) (marks : List ℕ) → j < 8 → AreLaneMarks t.rows marks
     → column_below level sight t y v x j ≡ total (λ q. get_or marks (q + j) 0 * seen_in level sight t x y v q) (t.rows + 7)
 column_marked level sight t x y v j marks lt are =
     let n = 7 - j in
@@ -126,7 +126,7 @@ are_rows w s wide from samples size inside wide-is from-is is =
 
 -- the sample in a row and a column that the window shows
 row_seen : {A : Type 0} (level : A → ℕ) (d : A) (w : View A) (t : Rectangle) (s : Shown) (samples : List A) (x y v at i : ℕ) → length w.cells ≡ w.place.height * w.place.width → AreRows w s samples
-    → IsShown (pos y +ℤ t.dy -ℤ pos w.place.y) (t.rows + 7) w.place.height s → at < w.place.width → pos x +ℤ t.dx -ℤ pos w.place.x ≡ pos at → i < s.rows
+    → AreRowsShown (pos y +ℤ t.dy -ℤ pos w.place.y) (t.rows + 7) w.place.height s → at < w.place.width → pos x +ℤ t.dx -ℤ pos w.place.x ≡ pos at → i < s.rows
     → seen_in level (seen_at w) t x y v (s.skip + i) ≡ cond (nat_lt (level (get_or samples (i * w.place.width + at) d)) v) 1 0
 row_seen level d w t s samples x y v at i size are shown across column lt =
     let width = w.place.width in
@@ -146,8 +146,8 @@ row_seen level d w t s samples x y v at i size are shown across column lt =
     place a i w at = grind arith
 
 -- a column that the window has
-column_seen : {A : Type 0} (level : A → ℕ) (d : A) (w : View A) (t : Rectangle) (s : Shown) (samples : List A) (marks rest : List ℕ) (x y v at j : ℕ) → length w.cells ≡ w.place.height * w.place.width → AreRows w s samples → AreMarks t.rows marks → rest ≡ drop s.skip marks
-    → IsShown (pos y +ℤ t.dy -ℤ pos w.place.y) (t.rows + 7) w.place.height s → j < 8 → at < w.place.width → pos x +ℤ t.dx -ℤ pos w.place.x ≡ pos at
+column_seen : {A : Type 0} (level : A → ℕ) (d : A) (w : View A) (t : Rectangle) (s : Shown) (samples : List A) (marks rest : List ℕ) (x y v at j : ℕ) → length w.cells ≡ w.place.height * w.place.width → AreRows w s samples → AreLaneMarks t.rows marks → rest ≡ drop s.skip marks
+    → AreRowsShown (pos y +ℤ t.dy -ℤ pos w.place.y) (t.rows + 7) w.place.height s → j < 8 → at < w.place.width → pos x +ℤ t.dx -ℤ pos w.place.x ≡ pos at
     → column_below level (seen_at w) t y v x j ≡ column_count level d samples w.place.width at rest v j s.rows
 column_seen level d w t s samples marks rest x y v at j size are marked rest-is shown lt across column =
     let δ = seen_in level (seen_at w) t x y v in
@@ -183,8 +183,8 @@ pub record ShowsSheet {A : Type 0} (level : A → ℕ) (d : A) (levels : ℕ) (c
   pub seen : (x at v j : ℕ) → j < 8 → at < width → pos x +ℤ dx -ℤ pos first ≡ pos at → column v x j ≡ column_count level d samples width at marks v j rows
   pub unseen : (x v j : ℕ) → j < 8 → ((at : ℕ) → at < width → pos x +ℤ dx -ℤ pos first ≡ pos at → ⊥) → column v x j ≡ 0
 
-pub shows_columns : {A : Type 0} (level : A → ℕ) (d : A) (w : View A) (t : Rectangle) (s : Shown) (y levels : ℕ) (samples : List A) (marks rest all : List ℕ) → length w.cells ≡ w.place.height * w.place.width → AllUnder level d w.cells levels → AreRows w s samples → AreMarks t.rows marks
-    → rest ≡ drop s.skip marks → IsShown (pos y +ℤ t.dy -ℤ pos w.place.y) (t.rows + 7) w.place.height s → length all ≡ 8 → ((j : ℕ) → j < 8 → get_or all j 0 ≡ total (λ i. get_or rest (i + j) 0) s.rows)
+pub shows_columns : {A : Type 0} (level : A → ℕ) (d : A) (w : View A) (t : Rectangle) (s : Shown) (y levels : ℕ) (samples : List A) (marks rest all : List ℕ) → length w.cells ≡ w.place.height * w.place.width → AllUnder level d w.cells levels → AreRows w s samples → AreLaneMarks t.rows marks
+    → rest ≡ drop s.skip marks → AreRowsShown (pos y +ℤ t.dy -ℤ pos w.place.y) (t.rows + 7) w.place.height s → length all ≡ 8 → ((j : ℕ) → j < 8 → get_or all j 0 ≡ total (λ i. get_or rest (i + j) 0) s.rows)
     → ShowsSheet level d levels (column_below level (seen_at w) t y) samples w.place.width s.rows rest w.place.x t.dx all
 shows_columns level d w t s y levels samples marks rest all size under are marked rest-is shown all-long all-is = record {
   inside = λ i at lt across. omega (arith, are.size, mul-add-lt i w.place.width at s.rows lt across);
@@ -199,7 +199,7 @@ shows_columns level d w t s y levels samples marks rest all size under are marke
 }
 
 -- no mark is greater than one
-pub marks_small : (rows skip : ℕ) (marks rest : List ℕ) → AreMarks rows marks → rest ≡ drop skip marks → (p : ℕ) → get_or rest p 0 ≤ 1
+pub marks_small : (rows skip : ℕ) (marks rest : List ℕ) → AreLaneMarks rows marks → rest ≡ drop skip marks → (p : ℕ) → get_or rest p 0 ≤ 1
 marks_small rows skip marks rest are rest-is p =
     let here : get_or rest p 0 ≡ get_or marks (skip + p) 0 = ap (λ (l : List ℕ). get_or l p 0) rest-is ∙ get_or-drop skip marks p 0 in
     elim (cases_lt (skip + p) (rows + 14)) [
@@ -207,16 +207,16 @@ marks_small rows skip marks rest are rest-is p =
       | inr past ↦ omega (arith, here, get_or_past marks (skip + p) 0 (omega (arith, are.size)))
     ]
 
--- the same of what the code has at hand
+-- a group shows, said of what the code has at hand
 pub group_shows : {A : Type 0} (level : A → ℕ) (d : A) (w : View A) (place : Rect) (t : Rectangle) (s : Shown) (top dx : ℤ) (y count levels : ℕ) (cells samples : List A) (marks rest all : List ℕ) → place ≡ w.place → length w.cells ≡ w.place.height * w.place.width → cells ≡ w.cells
-    → top ≡ pos y +ℤ t.dy -ℤ pos w.place.y → dx ≡ t.dx → count ≡ t.rows + 7 → IsShown top count place.height s → samples ≡ take (s.first * place.width + s.rows * place.width - s.first * place.width) (drop (s.first * place.width) cells) → AreMarks t.rows marks → rest ≡ drop s.skip marks
+    → top ≡ pos y +ℤ t.dy -ℤ pos w.place.y → dx ≡ t.dx → count ≡ t.rows + 7 → AreRowsShown top count place.height s → samples ≡ take (s.first * place.width + s.rows * place.width - s.first * place.width) (drop (s.first * place.width) cells) → AreLaneMarks t.rows marks → rest ≡ drop s.skip marks
     → length all ≡ 8 → ((j : ℕ) → j < 8 → get_or all j 0 ≡ total (λ i. get_or rest (i + j) 0) s.rows) → AllUnder level d w.cells levels → ShowsSheet level d levels (column_below level (seen_at w) t y) samples place.width s.rows rest place.x dx all
 group_shows level d w place t s top dx y count levels cells samples marks rest all place-is size cells-is top-is dx-is count-is shown samples-is marked rest-is all-long all-is under =
     let height : place.height ≡ w.place.height = ap (λ (p : Rect). p.height) place-is in
     let width : place.width ≡ w.place.width = ap (λ (p : Rect). p.width) place-is in
-    let shown-here : IsShown (pos y +ℤ t.dy -ℤ pos w.place.y) (t.rows + 7) w.place.height s =
-    subst (λ (n : ℕ). IsShown (pos y +ℤ t.dy -ℤ pos w.place.y) (t.rows + 7) n s) height
-    (subst (λ (n : ℕ). IsShown (pos y +ℤ t.dy -ℤ pos w.place.y) n place.height s) count-is (subst (λ (z : ℤ). IsShown z count place.height s) top-is shown)) in
+    let shown-here : AreRowsShown (pos y +ℤ t.dy -ℤ pos w.place.y) (t.rows + 7) w.place.height s =
+    subst (λ (n : ℕ). AreRowsShown (pos y +ℤ t.dy -ℤ pos w.place.y) (t.rows + 7) n s) height
+    (subst (λ (n : ℕ). AreRowsShown (pos y +ℤ t.dy -ℤ pos w.place.y) n place.height s) count-is (subst (λ (z : ℤ). AreRowsShown z count place.height s) top-is shown)) in
     let rows = are_rows w s place.width (s.first * place.width) samples size shown-here.inside width refl
     (samples-is ∙ ap (λ (l : List _). take (s.first * place.width + s.rows * place.width - s.first * place.width) (drop (s.first * place.width) l)) cells-is) in
     subst (λ (z : ℤ). ShowsSheet level d levels (column_below level (seen_at w) t y) samples place.width s.rows rest place.x z all) (sym dx-is)

@@ -1,22 +1,22 @@
 -- What a block of results sees of a window.
 use Rattle.std.specs.Prelude.{◌≡◌, ℕ, pos, ◌+ℤ◌, ◌-ℤ◌, ◌+◌, ◌-◌, ◌*◌, ◌<◌, ◌≤◌, ◌^◌, List, length, slice_index_or}
-use Rattle.mw_model.specs.declared.places.Rect.{Rect}
+use Rattle.mw_model.specs.declared.offsets.Rect.{Rect}
 use Rattle.mw_rank_numbers.specs.declared.numbering.Part.{Part}
 use Rattle.mw_rank_rows.specs.declared.rectangle.Rectangle.{Rectangle}
 use Rattle.mw_rank_rows.specs.declared.group.Shown.{Shown}
 use Rattle.mw_rank_rows.specs.declared.bands.Cut.{Cut}
-use Rattle.mw_rank_rows.specs.Rectangles.{IsShown}
+use Rattle.mw_rank_rows.specs.Rectangles.{AreRowsShown}
 
 -- rows that are shown, of these parts
-abbrev pub shown : ℕ → ℕ → ℕ → Shown
-shown skip first rows = record { skip = skip; first = first; rows = rows }
+abbrev pub shown_of_parts : ℕ → ℕ → ℕ → Shown
+shown_of_parts skip first rows = record { skip = skip; first = first; rows = rows }
 
 -- the part has all columns and rows of a window of that place that results see under the rectangle
 pub record ShowsPart (all : Rect) (t : Rectangle) (place : Rect) (part : Part) : Type 0 where
   pub left : ℕ
   pub above : ℕ
-  pub columns : IsShown (pos place.x +ℤ t.dx -ℤ pos all.x) (place.width + t.columns - 1) all.width (shown left part.column part.width)
-  pub rows : IsShown (pos place.y +ℤ t.dy -ℤ pos all.y) (place.height + t.rows - 1) all.height (shown above part.row part.height)
+  pub columns : AreRowsShown (pos place.x +ℤ t.dx -ℤ pos all.x) (place.width + t.columns - 1) all.width (shown_of_parts left part.column part.width)
+  pub rows : AreRowsShown (pos place.y +ℤ t.dy -ℤ pos all.y) (place.height + t.rows - 1) all.height (shown_of_parts above part.row part.height)
 
 -- the place of a part of a window
 pub record IsPart (all : Rect) (part : Part) (place : Rect) : Type 0 where
@@ -31,7 +31,7 @@ pub record HasColumns {A : Type 0} (level : A → ℕ) (value : ℕ → ℕ → 
   pub made : (x j : ℕ) (d : A) → x < columns → j < n → level (slice_index_or cells (j * w + x) d) ≡ value x j
 
 -- blocks of this size fit into a tile of so many columns and rows
-pub record IsCut (width height : ℕ) (c : Cut) : Type 0 where
+pub record CutFits (width height : ℕ) (c : Cut) : Type 0 where
   pub some : 1 ≤ c.width
   pub across : c.width ≤ width
   pub narrow : c.width ≤ 2 ^ 16

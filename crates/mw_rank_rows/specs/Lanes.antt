@@ -19,5 +19,5 @@ pub record IsFound (levels : ℕ) (u : ℕ → ℕ → ℕ) (n j level : ℕ) : 
   pub within : level < levels
 
 -- more samples are below a higher level
-abbrev pub Rises : (ℕ → ℕ → ℕ) → Type 0
-Rises w = (v j : ℕ) → w v j ≤ w (v + 1) j
+abbrev pub CountsRise : (ℕ → ℕ → ℕ) → Type 0
+CountsRise w = (v j : ℕ) → w v j ≤ w (v + 1) j

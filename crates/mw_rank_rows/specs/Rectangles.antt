@@ -2,8 +2,8 @@
 use Rattle.std.specs.Prelude.{◌≡◌, ℕ, ℤ, zero, suc, pos, ◌+ℤ◌, ◌+◌, ◌*◌, ◌<◌, ◌≤◌, ◌&&◌, List, [], ◌++◌, length, nat_le, nat_lt, cond, slice_index_or}
 use Rattle.mw_model.specs.PlanSteps.{ranked}
 use Rattle.mw_model.specs.Rasters.{Sight}
-use Rattle.mw_model.specs.declared.places.Offset.{Offset}
-use Rattle.mw_model.specs.declared.places.Rect.{Rect}
+use Rattle.mw_model.specs.declared.offsets.Offset.{Offset}
+use Rattle.mw_model.specs.declared.offsets.Rect.{Rect}
 use Rattle.mw_rank_counts.specs.mw_rank.Ranks.{levels_under}
 use Rattle.mw_rank_counts.specs.mw_rank.Runs.{offsets_from}
 use Rattle.mw_rank_rows.specs.declared.rectangle.Rectangle.{Rectangle}
@@ -14,22 +14,22 @@ abbrev pub row_start : Rectangle → ℕ → Offset
 row_start t r = record { dx = t.dx; dy = t.dy +ℤ pos r }
 
 -- the offsets of its first rows
-abbrev pub offsets_in : Rectangle → ℕ → List Offset
-offsets_in t zero = []
-offsets_in t (suc n) = offsets_in t n ++ offsets_from (row_start t n) t.columns
+abbrev pub offsets_of_rows : Rectangle → ℕ → List Offset
+offsets_of_rows t zero = []
+offsets_of_rows t (suc n) = offsets_of_rows t n ++ offsets_from (row_start t n) t.columns
 
 -- the rectangle has these offsets
 pub record IsRectangle (t : Rectangle) (offsets : List Offset) : Type 0 where
   pub some : 1 ≤ t.columns
-  pub is : offsets_in t t.rows ≡ offsets
+  pub is : offsets_of_rows t t.rows ≡ offsets
 
 -- lane j sees a row of samples where 7 rows or more, and fewer than those of the element and 7, lie from row 0 to j rows on
-pub record AreMarks (rows : ℕ) (marks : List ℕ) : Type 0 where
+pub record AreLaneMarks (rows : ℕ) (marks : List ℕ) : Type 0 where
   pub size : length marks ≡ rows + 14
   pub each : (p : ℕ) → p < rows + 14 → slice_index_or marks p 0 ≡ cond (nat_le 7 p && nat_lt p (rows + 7)) 1 0
 
 -- of so many rows from `top` on, a window of that height has some, counted from its own first row
-pub record IsShown (top : ℤ) (count height : ℕ) (s : Shown) : Type 0 where
+pub record AreRowsShown (top : ℤ) (count height : ℕ) (s : Shown) : Type 0 where
   pub within : s.skip + s.rows ≤ count
   pub inside : s.first + s.rows ≤ height
   pub at : (i : ℕ) → i < s.rows → top +ℤ pos (s.skip + i) ≡ pos (s.first + i)

@@ -7,7 +7,7 @@ use Rattle.mw_rank_rows.specs.Columns.{total, column_count}
 use Rattle.mw_rank_rows.specs.Lanes.{Counts, IsFound}
 
 -- of so many levels, lane j has u v j samples below v
-pub record Holds (levels : ℕ) (u : ℕ → ℕ → ℕ) (counts : List ℕ) (l : Lanes) : Type 0 where
+pub record LanesHold (levels : ℕ) (u : ℕ → ℕ → ℕ) (counts : List ℕ) (l : Lanes) : Type 0 where
   pub table : Counts levels u counts l.front.level l.front.below
   pub lanes : length l.held ≡ 8
   pub held : (j : ℕ) → j < 8 → slice_index_or l.held j 0 ≡ u levels j
@@ -23,7 +23,7 @@ pub record ShowsColumns {A : Type 0} (level : A → ℕ) (d : A) (levels : ℕ) 
   pub unseen : (x v j : ℕ) → j < 8 → ((at : ℕ) → at < s.sheet.width → pos x +ℤ s.dx -ℤ pos s.first ≡ pos at → ⊥) → column v x j ≡ 0
 
 -- `seen v x c j` samples below v are seen in c columns from x on: it grows by the column that enters, and loses the one that leaves
-pub record Slides (columns : ℕ) (column : ℕ → ℕ → ℕ → ℕ) (seen : ℕ → ℕ → ℕ → ℕ → ℕ) : Type 0 where
+pub record ColumnsSlide (columns : ℕ) (column : ℕ → ℕ → ℕ → ℕ) (seen : ℕ → ℕ → ℕ → ℕ → ℕ) : Type 0 where
   pub none : (v x j : ℕ) → seen v x 0 j ≡ 0
   pub enters : (v x c j : ℕ) → seen v x (c + 1) j ≡ seen v x c j + column v (x + c) j
   pub leaves : (v x c j : ℕ) → seen v x (c + 1) j ≡ column v x j + seen v (x + 1) c j

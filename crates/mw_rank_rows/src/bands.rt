@@ -4,7 +4,7 @@ ghost use Rattle.std.specs.Prelude.{◌≡◌, ℕ, ◌+◌, ◌-◌, ◌*◌, �
 ghost use Rattle.mw_model.specs.PlanSteps.{ranked};
 ghost use Rattle.mw_model.specs.Windows.{seen_at};
 ghost use Rattle.mw_rank_counts.specs.mw_rank.Ranks.{levels_under, HasRows};
-ghost use Rattle.mw_rank_rows.specs.Blocks.{HasColumns, IsCut};
+ghost use Rattle.mw_rank_rows.specs.Blocks.{CutFits, HasColumns};
 ghost use Rattle.mw_rank_rows.specs.Rectangles.{IsRectangle};
 
 use crate::blocks::rank_block;
@@ -65,7 +65,7 @@ fn put_block<P: Pixel>(
     }
 }
 
-/// The same for samples that can grow.
+/// Puts the columns of a block in their places, in samples that can grow.
 fn put_columns<P: Pixel>(
     out: &mut Vec<P>,
     width: usize,
@@ -92,7 +92,7 @@ fn rank_band<P: Counted>(
     band: Rect,
     cut: Cut,
 ) -> Result<Option<Vec<P>>, NoMemory>
-    requires cut { IsCut band.width band.height cut }
+    requires cut { CutFits band.width band.height cut }
     requires whole { cut.height ≡ band.height }
     requires inside { (band.x + band.width < 2 ^ 32) × (band.y + band.height < 2 ^ 32) }
     requires rectangle { IsRectangle wanted.rectangle wanted.offsets.now }
@@ -159,7 +159,7 @@ fn rank_bands<P: Counted>(
     tile: Rect,
     cut: Cut,
 ) -> Result<Vec<P>, NoMemory>
-    requires cut { IsCut tile.width tile.height cut }
+    requires cut { CutFits tile.width tile.height cut }
     requires inside { (tile.x + tile.width < 2 ^ 32) × (tile.y + tile.height < 2 ^ 32) }
     requires rectangle { IsRectangle wanted.rectangle wanted.offsets.now }
     requires some { 1 ≤ wanted.rectangle.rows }

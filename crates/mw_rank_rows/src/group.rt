@@ -3,8 +3,8 @@ ghost use Rattle.std.specs.Prelude.{◌≡◌, ℕ, ℤ, ◌+◌, ◌*◌, ◌<�
 ghost use Rattle.mw_model.specs.declared.limits.TheConstants.{FAR_LIMIT};
 ghost use Rattle.mw_model.specs.Windows.{seen_at};
 ghost use Rattle.mw_rank_counts.specs.Counting.{AllUnder};
-ghost use Rattle.mw_rank_rows.specs.Rectangles.{AreRanks, AreMarks, IsRectangle, IsShown};
-ghost use Rattle.mw_rank_rows.specs.Tables.{Holds};
+ghost use Rattle.mw_rank_rows.specs.Rectangles.{AreRanks, AreLaneMarks, IsRectangle, AreRowsShown};
+ghost use Rattle.mw_rank_rows.specs.Tables.{LanesHold};
 
 use crate::column::Sheet;
 use crate::lanes::Lanes;
@@ -48,7 +48,7 @@ pub(crate) fn shown_rows(top: i64, count: usize, height: u32) -> Shown
     requires low { negsuc FAR_LIMIT ≤ℤ top }
     requires high { top ≤ℤ pos (2 ^ 42) }
     requires few { count ≤ 2 ^ 17 }
-    ensures { IsShown top count height result }
+    ensures { AreRowsShown top count height result }
 {
     let height = height as usize;
     if top < 0 {
@@ -91,9 +91,9 @@ pub(crate) fn rank_together<P: Grey>(
     requires rectangle { IsRectangle group.rectangle group.offsets.now }
     requires low { group.rectangle.rows ≤ 2 ^ 15 }
     requires few { length group.offsets.now < 2 ^ 16 }
-    requires marks { AreMarks group.rectangle.rows group.marks.now }
-    requires known { (levels : ℕ) × AllUnder P.level P.TOP window.now.cells levels × Holds levels (λ v j. 0) counts.old lanes.old × (levels ≤ P.top_level + 1) }
-    ensures empty { (levels : ℕ) → AllUnder P.level P.TOP window.now.cells levels → Holds levels (λ v j. 0) counts.old lanes.old → Holds levels (λ v j. 0) counts.new lanes.new }
+    requires marks { AreLaneMarks group.rectangle.rows group.marks.now }
+    requires known { (levels : ℕ) × AllUnder P.level P.TOP window.now.cells levels × LanesHold levels (λ v j. 0) counts.old lanes.old × (levels ≤ P.top_level + 1) }
+    ensures empty { (levels : ℕ) → AllUnder P.level P.TOP window.now.cells levels → LanesHold levels (λ v j. 0) counts.old lanes.old → LanesHold levels (λ v j. 0) counts.new lanes.new }
     ensures found { IsTrue result → AreRanks P.level group.entry.k (seen_at window.now) group.entry.offsets.now group.entry.place made.new }
     ensures size { length made.new ≡ length made.old }
 {
@@ -141,9 +141,9 @@ pub(crate) fn rank_group<P: Grey>(
     requires rectangle { IsRectangle group.rectangle group.offsets.now }
     requires low { group.rectangle.rows ≤ 2 ^ 15 }
     requires few { length group.offsets.now < 2 ^ 16 }
-    requires marks { AreMarks group.rectangle.rows group.marks.now }
-    requires known { (levels : ℕ) × AllUnder P.level P.TOP window.now.cells levels × Holds levels (λ v j. 0) counts.old lanes.old × (levels ≤ P.top_level + 1) }
-    ensures empty { OnOk result ((levels : ℕ) → AllUnder P.level P.TOP window.now.cells levels → Holds levels (λ v j. 0) counts.old lanes.old → Holds levels (λ v j. 0) counts.new lanes.new) }
+    requires marks { AreLaneMarks group.rectangle.rows group.marks.now }
+    requires known { (levels : ℕ) × AllUnder P.level P.TOP window.now.cells levels × LanesHold levels (λ v j. 0) counts.old lanes.old × (levels ≤ P.top_level + 1) }
+    ensures empty { OnOk result ((levels : ℕ) → AllUnder P.level P.TOP window.now.cells levels → LanesHold levels (λ v j. 0) counts.old lanes.old → LanesHold levels (λ v j. 0) counts.new lanes.new) }
     ensures found { OnOk result (AreRanks P.level group.entry.k (seen_at window.now) group.entry.offsets.now group.entry.place made.new) }
     ensures size { length made.new ≡ length made.old }
 {

@@ -1,6 +1,6 @@
 //! What is known of eight histograms side by side, beside their counters.
 ghost use Rattle.std.specs.Prelude.{◌≡◌, ℕ, ◌+◌, ◌*◌, ◌<◌, ◌≤◌, List, replicate};
-ghost use Rattle.mw_rank_rows.specs.Tables.{Holds};
+ghost use Rattle.mw_rank_rows.specs.Tables.{LanesHold};
 
 use crate::search::Front;
 use std::simd::Simd;
@@ -15,7 +15,7 @@ pub(crate) struct Lanes {
 
 /// Lanes of no samples.
 pub(crate) fn no_samples() -> Lanes
-    ensures { (levels : ℕ) (u : ℕ → ℕ → ℕ) → 1 ≤ levels → levels < 65536 → ((v j : ℕ) → j < 8 → u v j ≡ 0) → Holds levels u (replicate (levels * 8) 0) result }
+    ensures { (levels : ℕ) (u : ℕ → ℕ → ℕ) → 1 ≤ levels → levels < 65536 → ((v j : ℕ) → j < 8 → u v j ≡ 0) → LanesHold levels u (replicate (levels * 8) 0) result }
 {
     let none = Simd::<u16, 8>::splat(0);
     let front = Front {

@@ -2,7 +2,7 @@
 //! samples as the element has. So the marks of the lanes for each row stand in one list, those of the next row one place on.
 ghost use Rattle.std.specs.Prelude.{◌≡◌, ℕ, ◌+◌, ◌<◌, ◌≤◌, length, slice_index_or, IfOk};
 ghost use Rattle.mw_rank_rows.specs.Columns.{total};
-ghost use Rattle.mw_rank_rows.specs.Rectangles.{AreMarks};
+ghost use Rattle.mw_rank_rows.specs.Rectangles.{AreLaneMarks};
 
 use crate::vectors::{lanes_at, plus};
 use mw_model::NoMemory;
@@ -13,7 +13,7 @@ use std::simd::prelude::*;
 /// The marks of eight lanes under an element of so many rows.
 pub(crate) fn marks_of(alloc: Global, rows: usize) -> Result<Vec<u16>, NoMemory>
     requires { rows < 65536 }
-    ensures { IfOk result (λ v. AreMarks rows v.items) }
+    ensures { IfOk result (λ v. AreLaneMarks rows v.items) }
 {
     let count = rows + 14;
     let mut marks = Vec::with_capacity(alloc, count)?;

@@ -5,7 +5,7 @@ use Rattle.std.proofs.lemmas.Bool.{cases_lt, cases_eq, lt-ltb, le-ltb}
 use Rattle.std.proofs.lemmas.List.{get_or_past}
 use Rattle.std.proofs.lemmas.Nat.{div-mul-add, mod-mul-add, mod_below, le-div}
 use Rattle.mw_model.proofs.mw_facts.Counts.{count_by-most}
-use Rattle.mw_model.specs.declared.places.Reach.{Reach}
+use Rattle.mw_model.specs.declared.offsets.Reach.{Reach}
 use Rattle.mw_grid.specs.Counts.{bit, count_below}
 use Rattle.mw_grid.specs.Grids.{Tiling, tile_count}
 use Rattle.mw_grid.specs.Blocks.{sees}
@@ -13,7 +13,7 @@ use Rattle.mw_grid.proofs.Counts.{count-product, count-next, count-none, bit-at,
 use Rattle.mw_ready.specs.declared.need.Need.{Need}
 use Rattle.mw_grid.proofs.Tiles.{some_tiles}
 use Rattle.mw_ready.specs.declared.spans.Spans.{Spans}
-use Rattle.mw_ready.specs.Boards.{is_source, step_of, step_reads, reads, need_of, no_need}
+use Rattle.mw_ready.specs.Boards.{is_source, step_on_grid, step_reads, reads_by_needs, need_of, no_need}
 use Rattle.mw_ready.specs.Counters.{Raises}
 use Rattle.mw_ready.specs.Kept.{read_count}
 use Rattle.mw_ready.specs.Spans.{AreSpans, tiles_spanned}
@@ -25,7 +25,7 @@ pub read_count-is : (needs : List Need) (need : Need) (g : Tiling) (n k tile t s
     → steps ≡ count_below (step_reads need) n → tiles ≡ count_below (sees g need.reach tile) (tile_count g)
     → steps * tiles ≡ read_count needs g (n * tile_count g) t
 read_count-is needs need g n k tile t steps tiles is lt t-is steps-is tiles-is =
-    let at : step_of g t ≡ k = ap (λ (j : ℕ). j / tile_count g) t-is ∙ div-mul-add k (tile_count g) tile lt in
+    let at : step_on_grid g t ≡ k = ap (λ (j : ℕ). j / tile_count g) t-is ∙ div-mul-add k (tile_count g) tile lt in
     let here : t % tile_count g ≡ tile = ap (λ (j : ℕ). j % tile_count g) t-is ∙ mod-mul-add k (tile_count g) tile lt in
     let own : need_of needs g t ≡ need = ap (λ (j : ℕ). get_or needs j no_need) at ∙ is in
     ap (λ (a : ℕ). a * tiles) steps-is
@@ -43,7 +43,7 @@ pub record CountsWaits (needs : List Need) (g : Tiling) (n k : ℕ) (waits : Lis
 -- no number is over that of the tasks
 pub waits-most : (needs : List Need) (g : Tiling) (n k t : ℕ) (waits : List ℕ) → CountsWaits needs g n k waits → get_or waits t 0 ≤ n * tile_count g
 waits-most needs g n k t waits counts = elim (cases_lt t (k * tile_count g)) [
-  | inl less ↦ omega (arith, counts.each t less, count_by-most (λ u. reads needs g t u) (n * tile_count g))
+  | inl less ↦ omega (arith, counts.each t less, count_by-most (λ u. reads_by_needs needs g t u) (n * tile_count g))
   | inr rest ↦ omega (arith, counts.rest t rest)
 ]
 
@@ -57,7 +57,7 @@ waits-room g reach s n steps u few le small spans =
 -- one step more
 pub waits-next : (needs : List Need) (g : Tiling) (s : Spans) (n k steps : ℕ) (old now : List ℕ) → k < n → steps ≡ count_below (step_reads (get_or needs k no_need)) n
     → AreSpans g s (λ tile. count_below (sees g (get_or needs k no_need).reach tile) (tile_count g)) → CountsWaits needs g n k old
-    → Raises (λ u. bit (nat_eq k (step_of g u)) * (steps * tiles_spanned g s (u % tile_count g))) old now → CountsWaits needs g n (k + 1) now
+    → Raises (λ u. bit (nat_eq k (step_on_grid g u)) * (steps * tiles_spanned g s (u % tile_count g))) old now → CountsWaits needs g n (k + 1) now
 waits-next needs g s n k steps old now lt steps-is spans counts raises = record {
   size = raises.size ∙ counts.size;
   each = λ t t-lt. elim (cases_lt t (k * tiles)) [
@@ -66,9 +66,9 @@ waits-next needs g s n k steps old now lt steps-is spans counts raises = record 
         let tile = t - k * tiles in
         let tile-lt : tile < tiles = omega arith in
         let t-is : t ≡ k * tiles + tile = omega arith in
-        let at : step_of g t ≡ k = ap (λ (j : ℕ). j / tiles) t-is ∙ div-mul-add k tiles tile tile-lt in
+        let at : step_on_grid g t ≡ k = ap (λ (j : ℕ). j / tiles) t-is ∙ div-mul-add k tiles tile tile-lt in
         let here : t % tiles ≡ tile = ap (λ (j : ℕ). j % tiles) t-is ∙ mod-mul-add k tiles tile tile-lt in
-        let now-is : bit (nat_eq k (step_of g t)) * (steps * tiles_spanned g s (t % tiles)) ≡ 1 * (steps * tiles_spanned g s (t % tiles)) = ap (λ (b : ℕ). b * (steps * tiles_spanned g s (t % tiles))) (bit-at k (step_of g t) (sym at)) in
+        let now-is : bit (nat_eq k (step_on_grid g t)) * (steps * tiles_spanned g s (t % tiles)) ≡ 1 * (steps * tiles_spanned g s (t % tiles)) = ap (λ (b : ℕ). b * (steps * tiles_spanned g s (t % tiles))) (bit-at k (step_on_grid g t) (sym at)) in
         let met : tiles_spanned g s (t % tiles) ≡ count_below (sees g (get_or needs k no_need).reach tile) tiles = ap (tiles_spanned g s) here ∙ spans.each tile tile-lt in
         let value = read_count-is needs (get_or needs k no_need) g n k tile t steps (tiles_spanned g s (t % tiles)) refl tile-lt t-is steps-is met in
         omega (arith, raises.each t (inside t t-lt), now-is, counts.rest t from, value)
@@ -88,8 +88,8 @@ waits-next needs g s n k steps old now lt steps-is spans counts raises = record 
         up : (k n : ℕ) → k < n → k + 1 ≤ n
         up k n lt = omega arith
 
-    other : (t : ℕ) → k ≢ step_of g t → bit (nat_eq k (step_of g t)) * (steps * tiles_spanned g s (t % tiles)) ≡ 0 * (steps * tiles_spanned g s (t % tiles))
-    other t ne = ap (λ (b : ℕ). b * (steps * tiles_spanned g s (t % tiles))) (bit-other k (step_of g t) ne)
+    other : (t : ℕ) → k ≢ step_on_grid g t → bit (nat_eq k (step_on_grid g t)) * (steps * tiles_spanned g s (t % tiles)) ≡ 0 * (steps * tiles_spanned g s (t % tiles))
+    other t ne = ap (λ (b : ℕ). b * (steps * tiles_spanned g s (t % tiles))) (bit-other k (step_on_grid g t) ne)
 
 -- a step is one number of those below the end, or none
 pub count-source : (x : Option ℕ) (k n : ℕ) → x ≡ Some k → count_below (λ s. is_source s x) n ≡ bit (nat_lt k n)

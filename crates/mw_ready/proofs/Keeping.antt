@@ -8,10 +8,10 @@ use Rattle.std.proofs.lemmas.Nat.{div-mul-add, mod-mul-add}
 use Rattle.mw_model.specs.Tasks.{flag}
 use Rattle.mw_grid.specs.Grids.{Tiling, tile_count}
 use Rattle.mw_ready.specs.declared.need.Need.{Need}
-use Rattle.mw_ready.specs.Boards.{Schedule, task_count, task_number, tasks_below, is_running, is_ready, ready_tasks, step_of, reads, reads_tile, Runs}
+use Rattle.mw_ready.specs.Boards.{Schedule, task_count_on, task_number, tasks_on, is_running_on, is_ready_on, ready_tasks_on, step_on_grid, reads_by_needs, reads_tile, RunsOn}
 use Rattle.mw_grid.specs.Counts.{bit, count_below}
 use Rattle.mw_ready_queue.specs.Queues.{Queued, is_open}
-use Rattle.mw_ready.specs.Counters.{Lowers, Waiting}
+use Rattle.mw_ready.specs.Counters.{AreWaiting, Lowers}
 use Rattle.mw_ready.specs.Kept.{Keeps, read_count, board_of}
 use Rattle.mw_grid.proofs.Counts.{count-none, count-all, count-more, bit-at, bit-other}
 use Rattle.mw_ready.proofs.Counts.{list_all-count}
@@ -60,17 +60,17 @@ finished_one p fin n task lt size open_yet = go (p task) refl
     go true e = sym (count-more (λ u. p u && not (flag fin u)) (λ u. p u && not (flag (set fin task true) u)) task n lt (λ u u-lt. one u e))
     go false e = add-zero (count_below (λ u. p u && not (flag (set fin task true) u)) n) ∙ count_by-same (λ u. p u && not (flag (set fin task true) u)) (λ u. p u && not (flag fin u)) n (λ u u-lt. none u e)
 
-pub ready_is_open : (b : Schedule) (counters : List ℕ) (active left t : ℕ) → Keeps b counters active left → t < task_count b → is_open b.started counters t ≡ is_ready b t
+pub ready_is_open : (b : Schedule) (counters : List ℕ) (active left t : ℕ) → Keeps b counters active left → t < task_count_on b → is_open b.started counters t ≡ is_ready_on b t
 ready_is_open b counters active left t keeps lt =
     ap (λ (n : ℕ). not (flag b.started t) && nat_eq n 0) (keeps.waits t lt)
-    ∙ ap (λ (r : Bool). not (flag b.started t) && r) (sym (list_all-count (reads b.needs b.grid t) (flag b.finished) (tasks_below b)))
+    ∙ ap (λ (r : Bool). not (flag b.started t) && r) (sym (list_all-count (reads_by_needs b.needs b.grid t) (flag b.finished) (tasks_on b)))
 
-pub count_is : (b : Schedule) (counters : List ℕ) (active left n : ℕ) → Keeps b counters active left → n ≡ length counters → count_below (is_open b.started counters) n ≡ ready_tasks b
+pub count_is : (b : Schedule) (counters : List ℕ) (active left n : ℕ) → Keeps b counters active left → n ≡ length counters → count_below (is_open b.started counters) n ≡ ready_tasks_on b
 count_is b counters active left n keeps e =
     ap (count_below (is_open b.started counters)) (e ∙ keeps.waiting)
-    ∙ count_by-same (is_open b.started counters) (is_ready b) (task_count b) (λ t lt. ready_is_open b counters active left t keeps lt)
+    ∙ count_by-same (is_open b.started counters) (is_ready_on b) (task_count_on b) (λ t lt. ready_is_open b counters active left t keeps lt)
 
-not_begun : (b : Schedule) (counters : List ℕ) (active left t : ℕ) → Keeps b counters active left → t < task_count b → flag b.started t ≡ false → flag b.finished t ≡ false
+not_begun : (b : Schedule) (counters : List ℕ) (active left t : ℕ) → Keeps b counters active left → t < task_count_on b → flag b.started t ≡ false → flag b.finished t ≡ false
 not_begun b counters active left t keeps lt idle = go (flag b.finished t) refl
   where
     go : (r : Bool) → flag b.finished t ≡ r → flag b.finished t ≡ false
@@ -78,7 +78,7 @@ not_begun b counters active left t keeps lt idle = go (flag b.finished t) refl
     go true e = absurd (both_ways (flag b.started t) idle (keeps.begun t lt e))
 
 -- a task is started
-start_keeps : (b : Schedule) (counters : List ℕ) (active left task : ℕ) → Keeps b counters active left → task < task_count b → is_open b.started counters task ≡ true
+start_keeps : (b : Schedule) (counters : List ℕ) (active left task : ℕ) → Keeps b counters active left → task < task_count_on b → is_open b.started counters task ≡ true
     → Keeps (record b { started = set b.started task true }) counters (active + 1) left
 start_keeps b counters active left task keeps lt opened =
     let parts = and_parts (not (flag b.started task)) (nat_eq (get_or counters task 0) 0) opened in
@@ -99,13 +99,13 @@ start_keeps b counters active left task keeps lt opened =
       ];
       running =
           ap (λ (k : ℕ). k + 1) keeps.running
-          ∙ sym (count-more (λ t. flag (set b.started task true) t && not (flag b.finished t)) (is_running b) task (task_count b) lt (λ t t-lt. elim (cases_eq t task) [
+          ∙ sym (count-more (λ t. flag (set b.started task true) t && not (flag b.finished t)) (is_running_on b) task (task_count_on b) lt (λ t t-lt. elim (cases_eq t task) [
             | inl here ↦
                 let p : bit (flag (set b.started task true) t && not (flag b.finished t)) ≡ 1 = rw here (rw (now, unfinished) refl) in
-                let q : bit (is_running b t) ≡ 0 = rw here (rw idle refl) in
+                let q : bit (is_running_on b t) ≡ 0 = rw here (rw idle refl) in
                 omega (arith, bit-at t task here)
             | inr ne ↦
-                let p : bit (flag (set b.started task true) t && not (flag b.finished t)) ≡ bit (is_running b t) = ap (λ (v : Bool). bit (v && not (flag b.finished t))) (get_or-set_other b.started task t true false ne) in
+                let p : bit (flag (set b.started task true) t && not (flag b.finished t)) ≡ bit (is_running_on b t) = ap (λ (v : Bool). bit (v && not (flag b.finished t))) (get_or-set_other b.started task t true false ne) in
                 omega (arith, bit-other t task ne)
           ]));
       remaining = keeps.remaining;
@@ -116,25 +116,25 @@ start_keeps b counters active left task keeps lt opened =
     }
 
 -- a running task is finished
-finish_keeps : (b : Schedule) (counters now : List ℕ) (active left task : ℕ) → Keeps b counters active left → task < task_count b → is_running b task ≡ true → Lowers (λ t. reads b.needs b.grid t task) counters now
+finish_keeps : (b : Schedule) (counters now : List ℕ) (active left task : ℕ) → Keeps b counters active left → task < task_count_on b → is_running_on b task ≡ true → Lowers (λ t. reads_by_needs b.needs b.grid t task) counters now
     → Keeps (record b { finished = set b.finished task true }) now (active - 1) (left - 1)
 finish_keeps b counters now active left task keeps lt running lowers =
     let parts = and_parts (flag b.started task) (not (flag b.finished task)) running in
     let unfinished : flag b.finished task ≡ false = not-true (flag b.finished task) parts.1 in
     let done : flag (set b.finished task true) task ≡ true = get_or-set_same b.finished task true false (let e = keeps.finished in omega arith) in
     let size : length (set b.finished task true) ≡ length b.finished = simp length-set in
-    let less-running : count_below (is_running b) (task_count b) ≡ count_below (λ t. flag b.started t && not (flag (set b.finished task true) t)) (task_count b) + 1 =
-    count-more (is_running b) (λ t. flag b.started t && not (flag (set b.finished task true) t)) task (task_count b) lt (λ t t-lt. elim (cases_eq t task) [
+    let less-running : count_below (is_running_on b) (task_count_on b) ≡ count_below (λ t. flag b.started t && not (flag (set b.finished task true) t)) (task_count_on b) + 1 =
+    count-more (is_running_on b) (λ t. flag b.started t && not (flag (set b.finished task true) t)) task (task_count_on b) lt (λ t t-lt. elim (cases_eq t task) [
       | inl here ↦
-          let p : bit (is_running b t) ≡ 1 = rw here (ap bit running) in
+          let p : bit (is_running_on b t) ≡ 1 = rw here (ap bit running) in
           let q : bit (flag b.started t && not (flag (set b.finished task true) t)) ≡ 0 = rw here (rw (done, parts.0) refl) in
           omega (arith, bit-at t task here)
       | inr ne ↦
-          let p : bit (flag b.started t && not (flag (set b.finished task true) t)) ≡ bit (is_running b t) = ap (λ (v : Bool). bit (flag b.started t && not v)) (get_or-set_other b.finished task t true false ne) in
+          let p : bit (flag b.started t && not (flag (set b.finished task true) t)) ≡ bit (is_running_on b t) = ap (λ (v : Bool). bit (flag b.started t && not v)) (get_or-set_other b.finished task t true false ne) in
           omega (arith, bit-other t task ne)
     ]) in
-    let less-left : count_below (λ t. not (flag b.finished t)) (task_count b) ≡ count_below (λ t. not (flag (set b.finished task true) t)) (task_count b) + 1 =
-    count-more (λ t. not (flag b.finished t)) (λ t. not (flag (set b.finished task true) t)) task (task_count b) lt (λ t t-lt. elim (cases_eq t task) [
+    let less-left : count_below (λ t. not (flag b.finished t)) (task_count_on b) ≡ count_below (λ t. not (flag (set b.finished task true) t)) (task_count_on b) + 1 =
+    count-more (λ t. not (flag b.finished t)) (λ t. not (flag (set b.finished task true) t)) task (task_count_on b) lt (λ t t-lt. elim (cases_eq t task) [
       | inl here ↦
           let p : bit (not (flag b.finished t)) ≡ 1 = rw here (rw unfinished refl) in
           let q : bit (not (flag (set b.finished task true) t)) ≡ 0 = rw here (rw done refl) in
@@ -148,7 +148,7 @@ finish_keeps b counters now active left task keeps lt running lowers =
       finished = size ∙ keeps.finished;
       waiting = lowers.size ∙ keeps.waiting;
       small = keeps.small;
-      waits = λ t t-lt. let e = keeps.waiting in omega (arith, lowers.each t (omega arith), keeps.waits t t-lt, finished_one (reads b.needs b.grid t) b.finished (task_count b) task lt keeps.finished unfinished);
+      waits = λ t t-lt. let e = keeps.waiting in omega (arith, lowers.each t (omega arith), keeps.waits t t-lt, finished_one (reads_by_needs b.needs b.grid t) b.finished (task_count_on b) task lt keeps.finished unfinished);
       calm = λ t t-lt begun. let e = keeps.waiting in omega (arith, lowers.each t (omega arith), keeps.calm t t-lt begun);
       running = let e = keeps.running in omega (arith, less-running);
       remaining = let e = keeps.remaining in omega (arith, less-left);
@@ -159,36 +159,36 @@ finish_keeps b counters now active left task keeps lt running lowers =
     }
 
 -- what reads an unfinished task waits for it, and is idle
-readers_wait : (b : Schedule) (counters : List ℕ) (active left task : ℕ) → Keeps b counters active left → task < task_count b → is_running b task ≡ true
-    → (t : ℕ) → t < length counters → reads b.needs b.grid t task ≡ true → (0 < get_or counters t 0) × (flag b.started t ≡ false)
+readers_wait : (b : Schedule) (counters : List ℕ) (active left task : ℕ) → Keeps b counters active left → task < task_count_on b → is_running_on b task ≡ true
+    → (t : ℕ) → t < length counters → reads_by_needs b.needs b.grid t task ≡ true → (0 < get_or counters t 0) × (flag b.started t ≡ false)
 readers_wait b counters active left task keeps lt running = λ t t-lt here.
     let parts = and_parts (flag b.started task) (not (flag b.finished task)) running in
     let unfinished : flag b.finished task ≡ false = not-true (flag b.finished task) parts.1 in
-    let n-lt : t < task_count b = let e = keeps.waiting in omega arith in
-    let more : 0 < get_or counters t 0 = omega (arith, keeps.waits t n-lt, finished_one (reads b.needs b.grid t) b.finished (task_count b) task lt keeps.finished unfinished, ap bit here) in
+    let n-lt : t < task_count_on b = let e = keeps.waiting in omega arith in
+    let more : 0 < get_or counters t 0 = omega (arith, keeps.waits t n-lt, finished_one (reads_by_needs b.needs b.grid t) b.finished (task_count_on b) task lt keeps.finished unfinished, ap bit here) in
     (more, go t n-lt (flag b.started t) refl more)
   where
-    go : (t : ℕ) → t < task_count b → (r : Bool) → flag b.started t ≡ r → 0 < get_or counters t 0 → flag b.started t ≡ false
+    go : (t : ℕ) → t < task_count_on b → (r : Bool) → flag b.started t ≡ r → 0 < get_or counters t 0 → flag b.started t ≡ false
     go t n-lt false e more = e
     go t n-lt true e more = absurd (let z = keeps.calm t n-lt e in omega arith)
 
 -- some task is running, so there is one, and it remains
-pub some_run : (b : Schedule) (counters now : List ℕ) (active left task : ℕ) → Keeps b counters active left → task < task_count b → is_running b task ≡ true → (0 < active) × (0 < left)
+pub some_run : (b : Schedule) (counters now : List ℕ) (active left task : ℕ) → Keeps b counters active left → task < task_count_on b → is_running_on b task ≡ true → (0 < active) × (0 < left)
 some_run b counters now active left task keeps lt running =
     let parts = and_parts (flag b.started task) (not (flag b.finished task)) running in
-    (omega (arith, keeps.running, count_by-some (is_running b) (task_count b) task lt running), omega (arith, keeps.remaining, count_by-some (λ t. not (flag b.finished t)) (task_count b) task lt parts.1))
+    (omega (arith, keeps.running, count_by-some (is_running_on b) (task_count_on b) task lt running), omega (arith, keeps.remaining, count_by-some (λ t. not (flag b.finished t)) (task_count_on b) task lt parts.1))
 
 -- the tasks that read a tile, by its step and by its number
-reads-number : (needs : List Need) (g : Tiling) (step tile t : ℕ) → tile < tile_count g → reads needs g t (task_number g step tile) ≡ reads_tile needs g t step tile
+reads-number : (needs : List Need) (g : Tiling) (step tile t : ℕ) → tile < tile_count g → reads_by_needs needs g t (task_number g step tile) ≡ reads_tile needs g t step tile
 reads-number needs g step tile t lt =
     ap (λ (k : ℕ). reads_tile needs g t k (task_number g step tile % tile_count g)) (div-mul-add step (tile_count g) tile lt)
     ∙ ap (reads_tile needs g t step) (mod-mul-add step (tile_count g) tile lt)
 
-pub number_within : (b : Schedule) (step tile : ℕ) → Runs b step tile → task_number b.grid step tile < task_count b
+pub number_within : (b : Schedule) (step tile : ℕ) → RunsOn b step tile → task_number b.grid step tile < task_count_on b
 number_within b step tile runs = number_of (length b.needs) (tile_count b.grid) tile step runs.inside runs.within
 
-pub readers_wait_given : (needs shown : List Need) (g : Tiling) (q : Queued) (finished : List Bool) (active left step tile : ℕ) → Keeps (board_of needs g q finished) q.waiting active left → Runs (board_of needs g q finished) step tile → shown ≡ needs
-    → Waiting (λ t. reads_tile shown g t step tile) q
+pub readers_wait_given : (needs shown : List Need) (g : Tiling) (q : Queued) (finished : List Bool) (active left step tile : ℕ) → Keeps (board_of needs g q finished) q.waiting active left → RunsOn (board_of needs g q finished) step tile → shown ≡ needs
+    → AreWaiting (λ t. reads_tile shown g t step tile) q
 readers_wait_given needs shown g q finished active left step tile keeps runs shown-is = λ t lt here.
     let b = board_of needs g q finished in
     let same = ap (λ (n : List Need). reads_tile n g t step tile) shown-is in
@@ -199,16 +199,16 @@ pub start_keeps_given : (b : Schedule) (counters now : List ℕ) (started : List
 start_keeps_given b counters now started active left task keeps lt opened e f =
     rw (e, f) (start_keeps b counters active left task keeps (let s = keeps.waiting in omega arith) opened)
 
-pub finish_keeps_given : (b : Schedule) (counters now : List ℕ) (started : List Bool) (shown : List Need) (active left step tile : ℕ) → Keeps b counters active left → Runs b step tile → shown ≡ b.needs
+pub finish_keeps_given : (b : Schedule) (counters now : List ℕ) (started : List Bool) (shown : List Need) (active left step tile : ℕ) → Keeps b counters active left → RunsOn b step tile → shown ≡ b.needs
     → Lowers (λ t. reads_tile shown b.grid t step tile) counters now → started ≡ b.started
     → Keeps (record b { started = started; finished = set b.finished (task_number b.grid step tile) true }) now (active - 1) (left - 1)
 finish_keeps_given b counters now started shown active left step tile keeps runs shown-is lowers e =
     let task = task_number b.grid step tile in
-    let lowered : Lowers (λ t. reads b.needs b.grid t task) counters now = lowers_same (λ t. reads_tile shown b.grid t step tile) (λ t. reads b.needs b.grid t task) counters now
+    let lowered : Lowers (λ t. reads_by_needs b.needs b.grid t task) counters now = lowers_same (λ t. reads_tile shown b.grid t step tile) (λ t. reads_by_needs b.needs b.grid t task) counters now
     (λ t. ap (λ (n : List Need). reads_tile n b.grid t step tile) shown-is ∙ sym (reads-number b.needs b.grid step tile t runs.inside)) lowers in
     subst (λ (s : List Bool). Keeps (record b { started = s; finished = set b.finished task true }) now (active - 1) (left - 1)) (sym e) (finish_keeps b counters now active left task keeps (number_within b step tile runs) runs.running lowered)
 
-pub ready_given : (b : Schedule) (counters : List ℕ) (active left t : ℕ) → Keeps b counters active left → t < length counters → is_open b.started counters t ≡ true → is_ready b t ≡ true
+pub ready_given : (b : Schedule) (counters : List ℕ) (active left t : ℕ) → Keeps b counters active left → t < length counters → is_open b.started counters t ≡ true → is_ready_on b t ≡ true
 ready_given b counters active left t keeps lt opened = sym (ready_is_open b counters active left t keeps (let s = keeps.waiting in omega arith)) ∙ opened
 
 pub step_of_number : (b : Schedule) (counters : List ℕ) (active left tiles step tile : ℕ) → Keeps b counters active left → tiles ≡ tile_count b.grid → step * tiles + tile < length counters → step < length b.needs
@@ -220,12 +220,12 @@ step_of_number b counters active left tiles step tile keeps tiles-is lt =
     less a n m lt = grind (arith, mul-le-mul_left)
 
 pub open_number : (b : Schedule) (counters : List ℕ) (active left tiles step tile : ℕ) → Keeps b counters active left → tiles ≡ tile_count b.grid → step * tiles + tile < length counters → is_open b.started counters (step * tiles + tile) ≡ true
-    → is_ready b (task_number b.grid step tile) ≡ true
+    → is_ready_on b (task_number b.grid step tile) ≡ true
 open_number b counters active left tiles step tile keeps tiles-is lt opened =
-    ap (λ (k : ℕ). is_ready b (step * k + tile)) (sym tiles-is) ∙ ready_given b counters active left (step * tiles + tile) keeps lt opened
+    ap (λ (k : ℕ). is_ready_on b (step * k + tile)) (sym tiles-is) ∙ ready_given b counters active left (step * tiles + tile) keeps lt opened
 
 pub latest_step : (b : Schedule) (counters : List ℕ) (active left tiles step n : ℕ) → Keeps b counters active left → tiles ≡ tile_count b.grid
-    → ((t : ℕ) → t < length counters → is_open b.started counters t ≡ true → t / tiles ≤ step) → n < task_count b → is_ready b n ≡ true → step_of b.grid n ≤ step
+    → ((t : ℕ) → t < length counters → is_open b.started counters t ≡ true → t / tiles ≤ step) → n < task_count_on b → is_ready_on b n ≡ true → step_on_grid b.grid n ≤ step
 latest_step b counters active left tiles step n keeps tiles-is latest lt ready =
     let h = latest n (let s = keeps.waiting in omega arith) (ready_is_open b counters active left n keeps lt ∙ ready) in
     omega (arith, ap (λ (k : ℕ). n / k) tiles-is)
@@ -236,10 +236,10 @@ none_finished p finished n is = count_by-same p (λ u. p u && not (flag finished
     (λ u lt. sym (ap (λ (xs : List Bool). p u && not (flag xs u)) is ∙ ap (λ (b : Bool). p u && not b) (get_or-replicate n u false false lt) ∙ and-true (p u)))
 
 -- a task that was started has all that it reads
-pub has_all : (b : Schedule) (counters : List ℕ) (active left t : ℕ) → Keeps b counters active left → t < task_count b → flag b.started t ≡ true
-    → list_all (λ u. not (reads b.needs b.grid t u) || flag b.finished u) (tasks_below b) ≡ true
+pub has_all : (b : Schedule) (counters : List ℕ) (active left t : ℕ) → Keeps b counters active left → t < task_count_on b → flag b.started t ≡ true
+    → list_all (λ u. not (reads_by_needs b.needs b.grid t u) || flag b.finished u) (tasks_on b) ≡ true
 has_all b counters active left t keeps lt begun =
-    list_all-count (reads b.needs b.grid t) (flag b.finished) (tasks_below b)
+    list_all-count (reads_by_needs b.needs b.grid t) (flag b.finished) (tasks_on b)
     ∙ ap (λ (n : ℕ). nat_eq n 0) (sym (keeps.waits t lt) ∙ keeps.calm t lt begun)
 
 -- nothing was started
@@ -251,7 +251,7 @@ keeps_fresh needs g q finished left small started-is finished-is size left-is ea
   finished = ap (λ (xs : List Bool). length xs) finished-is ∙ length-replicate (length needs * tile_count g) false;
   waiting = size;
   small = small;
-  waits = λ t lt. each t lt ∙ none_finished (reads needs g t) finished (length needs * tile_count g) finished-is;
+  waits = λ t lt. each t lt ∙ none_finished (reads_by_needs needs g t) finished (length needs * tile_count g) finished-is;
   calm = λ t lt begun. absurd (both_ways (flag q.started t) (idle t lt) begun);
   running = sym (count-none (λ t. flag q.started t && not (flag finished t)) (length needs * tile_count g) (λ t lt. ap (λ (b : Bool). b && not (flag finished t)) (idle t lt)));
   remaining = left-is ∙ sym (count-all (λ t. not (flag finished t)) (length needs * tile_count g) (λ t lt. ap (λ (b : Bool). not b) (unfinished t lt)));

@@ -7,7 +7,7 @@ use Rattle.mw_grid.specs.Counts.{bit, in_range}
 use Rattle.mw_grid.proofs.Meeting.{row_is}
 use Rattle.mw_grid.proofs.Counts.{bit-at, bit-other, in-yes, in-low, in-high}
 use Rattle.mw_ready_queue.specs.Queues.{Queued}
-use Rattle.mw_ready.specs.Counters.{Lowers, Waiting, Counted}
+use Rattle.mw_ready.specs.Counters.{Lowers, AreWaiting, NoneIsZero}
 
 -- one place more
 pub range_more : (a t x : ℕ) → a ≤ t → bit (in_range a (t + 1) x) ≡ bit (in_range a t x) + bit (nat_eq x t)
@@ -57,17 +57,17 @@ row_still columns top bottom left right row old now some le from to lowers t lt 
     (t-lt, rw (in-yes top bottom (t / columns) (omega arith) (omega arith)) both.1, omega (arith, lowers.each t t-lt))
 
 pub row_waits : (columns top bottom left right row : ℕ) (old now : Queued) → 0 < columns → right ≤ columns → top ≤ row → row < bottom → now.started ≡ old.started
-    → Waiting (λ t. in_range top bottom (t / columns) && in_range left right (t % columns)) old
+    → AreWaiting (λ t. in_range top bottom (t / columns) && in_range left right (t % columns)) old
     → Lowers (λ t. in_range top row (t / columns) && in_range left right (t % columns)) old.waiting now.waiting
-    → Waiting (in_range (row * columns + left) (row * columns + right)) now
+    → AreWaiting (in_range (row * columns + left) (row * columns + right)) now
 row_waits columns top bottom left right row old now some le from to started waiting lowers = λ t lt here.
     let still = row_still columns top bottom left right row old.waiting now.waiting some le from to lowers t lt here in
     let was = waiting t still.0 still.1 in
     (omega (arith, was.0, still.2), ap (λ (xs : List Bool). flag xs t) started ∙ was.1)
 
 pub row_counted : (columns top bottom left right row : ℕ) (old now : List ℕ) → 0 < columns → right ≤ columns → top ≤ row → row < bottom
-    → Counted (λ t. in_range top bottom (t / columns) && in_range left right (t % columns)) old
-    → Lowers (λ t. in_range top row (t / columns) && in_range left right (t % columns)) old now → Counted (in_range (row * columns + left) (row * columns + right)) now
+    → NoneIsZero (λ t. in_range top bottom (t / columns) && in_range left right (t % columns)) old
+    → Lowers (λ t. in_range top row (t / columns) && in_range left right (t % columns)) old now → NoneIsZero (in_range (row * columns + left) (row * columns + right)) now
 row_counted columns top bottom left right row old now some le from to counted lowers = λ t lt here.
     let still = row_still columns top bottom left right row old now some le from to lowers t lt here in
     omega (arith, counted t still.0 still.1, still.2)
@@ -76,8 +76,8 @@ row_counted columns top bottom left right row old now some le from to counted lo
 pub lowers_same : (here there : ℕ → Bool) (old now : List ℕ) → ((t : ℕ) → here t ≡ there t) → Lowers here old now → Lowers there old now
 lowers_same here there old now same lowers = record { size = lowers.size; each = λ t lt. omega (arith, lowers.each t lt, ap bit (same t)) }
 
-pub waiting_same : (here there : ℕ → Bool) (q : Queued) → ((t : ℕ) → here t ≡ there t) → Waiting there q → Waiting here q
+pub waiting_same : (here there : ℕ → Bool) (q : Queued) → ((t : ℕ) → here t ≡ there t) → AreWaiting there q → AreWaiting here q
 waiting_same here there q same waiting = λ t lt so. waiting t lt (sym (same t) ∙ so)
 
-pub counted_same : (here there : ℕ → Bool) (counts : List ℕ) → ((t : ℕ) → here t ≡ there t) → Counted there counts → Counted here counts
+pub counted_same : (here there : ℕ → Bool) (counts : List ℕ) → ((t : ℕ) → here t ≡ there t) → NoneIsZero there counts → NoneIsZero here counts
 counted_same here there counts same counted = λ t lt so. counted t lt (sym (same t) ∙ so)

@@ -14,24 +14,24 @@ use Rattle.mw_grid.proofs.Meeting.{row_is}
 use Rattle.mw_grid.proofs.Counts.{in-yes, in-low, in-high, count-add, count-if}
 use Rattle.mw_grid.proofs.Lines.{row_less}
 use Rattle.mw_ready.specs.declared.need.Need.{Need}
-use Rattle.mw_ready.specs.Boards.{is_source, step_of, step_reads, reads, no_need}
+use Rattle.mw_ready.specs.Boards.{is_source, step_on_grid, step_reads, reads_by_needs, no_need}
 use Rattle.mw_ready.specs.Kept.{reader_count, seen_by, takes}
-use Rattle.mw_ready.specs.Counters.{Lowers, Raises, Counted}
+use Rattle.mw_ready.specs.Counters.{Lowers, Raises, NoneIsZero}
 use Rattle.mw_grid.proofs.Counts.{bit_true}
 use Rattle.mw_ready.proofs.Boxes.{boxes_fit}
 use Rattle.mw_ready.proofs.Lowering.{lowers_same, counted_same}
 use Rattle.mw_ready.proofs.Numbers.{eq_swap}
 
 -- a task of a table has one of its steps
-pub step_below : (g : Tiling) (n u : ℕ) → u < n * tile_count g → step_of g u < n
+pub step_below : (g : Tiling) (n u : ℕ) → u < n * tile_count g → step_on_grid g u < n
 step_below g n u lt = row_less n (tile_count g) u (some u n (tile_count g) lt) lt
   where
     some : (t n m : ℕ) → t < n * m → 0 < m
     some t n m lt = grind arith
 
 -- past the last step nothing is a source
-pub not_source : (g : Tiling) (n k u : ℕ) → n ≤ k → u < n * tile_count g → nat_eq k (step_of g u) ≡ false
-not_source g n k u le lt = ne_eqb k (step_of g u) (λ e. absurd (let s = step_below g n u lt in omega arith))
+pub not_source : (g : Tiling) (n k u : ℕ) → n ≤ k → u < n * tile_count g → nat_eq k (step_on_grid g u) ≡ false
+not_source g n k u le lt = ne_eqb k (step_on_grid g u) (λ e. absurd (let s = step_below g n u lt in omega arith))
 
 pub raises_none : (more : ℕ → ℕ) (xs : List ℕ) → ((u : ℕ) → u < length xs → more u ≡ 0) → Raises more xs xs
 raises_none more xs none = record { size = refl; each = λ u lt. let e = none u lt in omega arith }
@@ -127,7 +127,7 @@ pub raised_most : (f : ℕ → ℕ) (p : ℕ → Bool) (old now : List ℕ) (u m
 raised_most f p old now u most raises lt le = omega (arith, raises.each u lt, bit_mul_le (p u) (f u), le)
 
 -- what the task of a step and a tile reads
-pub reads_takes : (needs : List Need) (need : Need) (g : Tiling) (k tile u : ℕ) → tile < tile_count g → get_or needs k no_need ≡ need → reads needs g (k * tile_count g + tile) u ≡ takes need g tile u
+pub reads_takes : (needs : List Need) (need : Need) (g : Tiling) (k tile u : ℕ) → tile < tile_count g → get_or needs k no_need ≡ need → reads_by_needs needs g (k * tile_count g + tile) u ≡ takes need g tile u
 reads_takes needs need g k tile u lt is =
     ap (λ (s : ℕ). takes (get_or needs s no_need) g ((k * tile_count g + tile) % tile_count g) u) (div-mul-add k (tile_count g) tile lt)
     ∙ ap (λ (m : ℕ). takes (get_or needs k no_need) g m u) (mod-mul-add k (tile_count g) tile lt)
@@ -135,12 +135,12 @@ reads_takes needs need g k tile u lt is =
 
 -- the readers of one step more
 pub readers_next : (needs : List Need) (need : Need) (g : Tiling) (k u : ℕ) → get_or needs k no_need ≡ need
-    → reader_count needs g ((k + 1) * tile_count g) u ≡ reader_count needs g (k * tile_count g) u + bit (step_reads need (step_of g u)) * seen_by g need.reach (u % tile_count g)
+    → reader_count needs g ((k + 1) * tile_count g) u ≡ reader_count needs g (k * tile_count g) u + bit (step_reads need (step_on_grid g u)) * seen_by g need.reach (u % tile_count g)
 readers_next needs need g k u is =
     ap (reader_count_to) (row k (tile_count g))
-    ∙ count-add (λ t. reads needs g t u) (k * tile_count g) (tile_count g)
-    ∙ ap (λ (n : ℕ). reader_count needs g (k * tile_count g) u + n) (count_by-same (λ w. reads needs g (k * tile_count g + w) u) (λ w. step_reads need (step_of g u) && sees g need.reach w (u % tile_count g)) (tile_count g) (λ w lt. one w lt))
-    ∙ ap (λ (n : ℕ). reader_count needs g (k * tile_count g) u + n) (count-if (step_reads need (step_of g u)) (λ w. sees g need.reach w (u % tile_count g)) (tile_count g))
+    ∙ count-add (λ t. reads_by_needs needs g t u) (k * tile_count g) (tile_count g)
+    ∙ ap (λ (n : ℕ). reader_count needs g (k * tile_count g) u + n) (count_by-same (λ w. reads_by_needs needs g (k * tile_count g + w) u) (λ w. step_reads need (step_on_grid g u) && sees g need.reach w (u % tile_count g)) (tile_count g) (λ w lt. one w lt))
+    ∙ ap (λ (n : ℕ). reader_count needs g (k * tile_count g) u + n) (count-if (step_reads need (step_on_grid g u)) (λ w. sees g need.reach w (u % tile_count g)) (tile_count g))
   where
     reader_count_to : ℕ → ℕ
     reader_count_to n = reader_count needs g n u
@@ -148,7 +148,7 @@ readers_next needs need g k u is =
     row : (k n : ℕ) → (k + 1) * n ≡ k * n + n
     row k n = omega arith
 
-    one : (w : ℕ) → w < tile_count g → reads needs g (k * tile_count g + w) u ≡ step_reads need (step_of g u) && sees g need.reach w (u % tile_count g)
+    one : (w : ℕ) → w < tile_count g → reads_by_needs needs g (k * tile_count g + w) u ≡ step_reads need (step_on_grid g u) && sees g need.reach w (u % tile_count g)
     one w lt = reads_takes needs need g k w u lt is
 
 -- ---- three sources of which each task has one at most
@@ -164,10 +164,10 @@ pub record Splits (d a b c : ℕ → Bool) : Type 0 where
 pub splits_under : (d a b c m n : ℕ → Bool) → ((u : ℕ) → bit (a u) + bit (b u) + bit (c u) ≡ bit (d u)) → ((u : ℕ) → m u ≡ n u) → Splits (λ u. d u && n u) (λ u. a u && m u) (λ u. b u && m u) (λ u. c u && m u)
 splits_under d a b c m n bits same = record { each = λ u. three_bits (a u) (b u) (c u) (d u) (m u) (bits u) ∙ ap (λ (v : Bool). bit (d u && v)) (same u) }
 
-pub counted_first : (d a b c : ℕ → Bool) (old : List ℕ) → Splits d a b c → Counted d old → Counted a old
+pub counted_first : (d a b c : ℕ → Bool) (old : List ℕ) → Splits d a b c → NoneIsZero d old → NoneIsZero a old
 counted_first d a b c old splits counted = λ u lt here. counted u lt (bit_true (d u) (let e = splits.each u in let h : bit (a u) ≡ 1 = ap bit here in omega arith))
 
-pub counted_second : (d a b c : ℕ → Bool) (old x : List ℕ) → Splits d a b c → Counted d old → Lowers a old x → Counted b x
+pub counted_second : (d a b c : ℕ → Bool) (old x : List ℕ) → Splits d a b c → NoneIsZero d old → Lowers a old x → NoneIsZero b x
 counted_second d a b c old x splits counted lowers = λ u lt here.
     let e = splits.each u in
     let h : bit (b u) ≡ 1 = ap bit here in
@@ -177,7 +177,7 @@ counted_second d a b c old x splits counted lowers = λ u lt here.
     let l = lowers.each u u-lt in
     omega arith
 
-pub counted_third : (d a b c : ℕ → Bool) (old x y : List ℕ) → Splits d a b c → Counted d old → Lowers a old x → Lowers b x y → Counted c y
+pub counted_third : (d a b c : ℕ → Bool) (old x y : List ℕ) → Splits d a b c → NoneIsZero d old → Lowers a old x → Lowers b x y → NoneIsZero c y
 counted_third d a b c old x y splits counted first second = λ u lt here.
     let e = splits.each u in
     let h : bit (c u) ≡ 1 = ap bit here in
@@ -201,30 +201,30 @@ lowers_three d a b c old x y now splits p q r = record {
 }
 
 -- the tasks of a source
-pub source_is : (g : Tiling) (b shifted : Block) (k t : ℕ) → ((t : ℕ) → in_block g shifted t ≡ nat_eq (step_of g t) k && in_block g b (t % tile_count g))
-    → in_block g shifted t ≡ nat_eq k (step_of g t) && in_block g b (t % tile_count g)
-source_is g b shifted k t tasks = tasks t ∙ ap (λ (v : Bool). v && in_block g b (t % tile_count g)) (eq_swap (step_of g t) k)
+pub source_is : (g : Tiling) (b shifted : Block) (k t : ℕ) → ((t : ℕ) → in_block g shifted t ≡ nat_eq (step_on_grid g t) k && in_block g b (t % tile_count g))
+    → in_block g shifted t ≡ nat_eq k (step_on_grid g t) && in_block g b (t % tile_count g)
+source_is g b shifted k t tasks = tasks t ∙ ap (λ (v : Bool). v && in_block g b (t % tile_count g)) (eq_swap (step_on_grid g t) k)
 
 -- the tasks of a source whose tile lies in a block
 abbrev pub of_source : Tiling → Block → Option ℕ → ℕ → Bool
-of_source g b x u = is_source (step_of g u) x && in_block g b (u % tile_count g)
+of_source g b x u = is_source (step_on_grid g u) x && in_block g b (u % tile_count g)
 
 -- what a task reads is of one of its sources
 pub sources_split : (g : Tiling) (need : Need) (b : Block) (tile : ℕ) (x y z : Option ℕ) → 0 < tile_count g → ((s : ℕ) → bit (is_source s x) + bit (is_source s y) + bit (is_source s z) ≡ bit (step_reads need s))
     → ((v : ℕ) → v < tile_count g → in_block g b v ≡ sees g need.reach tile v) → Splits (takes need g tile) (of_source g b x) (of_source g b y) (of_source g b z)
 sources_split g need b tile x y z some bits each =
-    splits_under (λ u. step_reads need (step_of g u)) (λ u. is_source (step_of g u) x) (λ u. is_source (step_of g u) y) (λ u. is_source (step_of g u) z) (λ u. in_block g b (u % tile_count g)) (λ u. sees g need.reach tile (u % tile_count g))
-    (λ u. bits (step_of g u)) (λ u. each (u % tile_count g) (mod_below u (tile_count g) some))
+    splits_under (λ u. step_reads need (step_on_grid g u)) (λ u. is_source (step_on_grid g u) x) (λ u. is_source (step_on_grid g u) y) (λ u. is_source (step_on_grid g u) z) (λ u. in_block g b (u % tile_count g)) (λ u. sees g need.reach tile (u % tile_count g))
+    (λ u. bits (step_on_grid g u)) (λ u. each (u % tile_count g) (mod_below u (tile_count g) some))
 
-pub source_given : (g : Tiling) (b shifted : Block) (x : Option ℕ) (k : ℕ) (old now : List ℕ) → x ≡ Some k → ((t : ℕ) → in_block g shifted t ≡ nat_eq (step_of g t) k && in_block g b (t % tile_count g)) → Lowers (in_block g shifted) old now
+pub source_given : (g : Tiling) (b shifted : Block) (x : Option ℕ) (k : ℕ) (old now : List ℕ) → x ≡ Some k → ((t : ℕ) → in_block g shifted t ≡ nat_eq (step_on_grid g t) k && in_block g b (t % tile_count g)) → Lowers (in_block g shifted) old now
     → Lowers (of_source g b x) old now
 source_given g b shifted x k old now is tasks lowers =
     subst (λ (y : Option ℕ). Lowers (of_source g b y) old now) (sym is) (lowers_same (in_block g shifted) (of_source g b (Some k)) old now (λ t. source_is g b shifted k t tasks) lowers)
 
-pub source_counted : (g : Tiling) (b shifted : Block) (x : Option ℕ) (k : ℕ) (counts : List ℕ) → x ≡ Some k → ((t : ℕ) → in_block g shifted t ≡ nat_eq (step_of g t) k && in_block g b (t % tile_count g)) → Counted (of_source g b x) counts
-    → Counted (in_block g shifted) counts
+pub source_counted : (g : Tiling) (b shifted : Block) (x : Option ℕ) (k : ℕ) (counts : List ℕ) → x ≡ Some k → ((t : ℕ) → in_block g shifted t ≡ nat_eq (step_on_grid g t) k && in_block g b (t % tile_count g)) → NoneIsZero (of_source g b x) counts
+    → NoneIsZero (in_block g shifted) counts
 source_counted g b shifted x k counts is tasks counted =
-    counted_same (in_block g shifted) (of_source g b (Some k)) counts (λ t. source_is g b shifted k t tasks) (subst (λ (y : Option ℕ). Counted (of_source g b y) counts) is counted)
+    counted_same (in_block g shifted) (of_source g b (Some k)) counts (λ t. source_is g b shifted k t tasks) (subst (λ (y : Option ℕ). NoneIsZero (of_source g b y) counts) is counted)
 
 -- a source that is no step
 pub no_source : (g : Tiling) (b : Block) (x : Option ℕ) (n k : ℕ) (counts : List ℕ) → x ≡ Some k → n ≤ k → length counts ≡ n * tile_count g → Lowers (of_source g b x) counts counts
@@ -232,9 +232,9 @@ no_source g b x n k counts is le size = lowers_none (of_source g b x) counts (λ
     ap (λ (y : Option ℕ). of_source g b y u) is
     ∙ ap (λ (v : Bool). v && in_block g b (u % tile_count g)) (not_source g n k u le (omega arith)))
 
-pub no_raise : (g : Tiling) (f : ℕ → ℕ) (x : Option ℕ) (n k : ℕ) (counts : List ℕ) → x ≡ Some k → n ≤ k → length counts ≡ n * tile_count g → Raises (λ u. bit (is_source (step_of g u) x) * f u) counts counts
-no_raise g f x n k counts is le size = raises_none (λ u. bit (is_source (step_of g u) x) * f u) counts (λ u lt.
-    ap (λ (y : Option ℕ). bit (is_source (step_of g u) y) * f u) is
+pub no_raise : (g : Tiling) (f : ℕ → ℕ) (x : Option ℕ) (n k : ℕ) (counts : List ℕ) → x ≡ Some k → n ≤ k → length counts ≡ n * tile_count g → Raises (λ u. bit (is_source (step_on_grid g u) x) * f u) counts counts
+no_raise g f x n k counts is le size = raises_none (λ u. bit (is_source (step_on_grid g u) x) * f u) counts (λ u lt.
+    ap (λ (y : Option ℕ). bit (is_source (step_on_grid g u) y) * f u) is
     ∙ ap (λ (v : Bool). bit v * f u) (not_source g n k u le (omega arith))
     ∙ none (f u))
   where
@@ -253,10 +253,10 @@ block_fits bottom k n rows columns size le lt is =
     omega (arith, boxes_fit k n rows columns lt)
 
 -- the tasks of a source that is a step are raised once
-pub raises_once : (g : Tiling) (f : ℕ → ℕ) (x : Option ℕ) (k : ℕ) (old now : List ℕ) → x ≡ Some k → Raises (λ u. bit (nat_eq k (step_of g u)) * (1 * f u)) old now → Raises (λ u. bit (is_source (step_of g u) x) * f u) old now
+pub raises_once : (g : Tiling) (f : ℕ → ℕ) (x : Option ℕ) (k : ℕ) (old now : List ℕ) → x ≡ Some k → Raises (λ u. bit (nat_eq k (step_on_grid g u)) * (1 * f u)) old now → Raises (λ u. bit (is_source (step_on_grid g u) x) * f u) old now
 raises_once g f x k old now is raises =
-    raises_same (λ u. bit (nat_eq k (step_of g u)) * (1 * f u)) (λ u. bit (is_source (step_of g u) x) * f u) old now
-    (λ u. ap (λ (n : ℕ). bit (nat_eq k (step_of g u)) * n) (once (f u)) ∙ ap (λ (y : Option ℕ). bit (is_source (step_of g u) y) * f u) (sym is)) raises
+    raises_same (λ u. bit (nat_eq k (step_on_grid g u)) * (1 * f u)) (λ u. bit (is_source (step_on_grid g u) x) * f u) old now
+    (λ u. ap (λ (n : ℕ). bit (nat_eq k (step_on_grid g u)) * n) (once (f u)) ∙ ap (λ (y : Option ℕ). bit (is_source (step_on_grid g u) y) * f u) (sym is)) raises
   where
     once : (k : ℕ) → 1 * k ≡ k
     once k = omega arith

@@ -4,7 +4,7 @@ use Rattle.std.proofs.lemmas.Bool.{cases_lt}
 use Rattle.std.proofs.lemmas.List.{get_or-set_same, get_or-set_other}
 use Rattle.std.proofs.lemmas.Nat.{le-div, div_below, div-mul-add, mod-mul-add, mod_below}
 use Rattle.mw_model.proofs.mw_facts.Counts.{count_by-same, count_by-most}
-use Rattle.mw_model.specs.declared.places.Reach.{Reach}
+use Rattle.mw_model.specs.declared.offsets.Reach.{Reach}
 use Rattle.mw_grid.specs.declared.blocks.Block.{Block}
 use Rattle.mw_grid.specs.Blocks.{IsBlock, in_block, sees}
 use Rattle.mw_grid.specs.Counts.{bit, count_below, in_range}
@@ -14,7 +14,7 @@ use Rattle.mw_grid.proofs.Lines.{number_of, row_less}
 use Rattle.mw_grid.proofs.Meeting.{block_given, count-block, turned_sees}
 use Rattle.mw_grid.proofs.Tiles.{HasTiles, some_tiles}
 use Rattle.mw_ready.specs.declared.spans.Spans.{Spans}
-use Rattle.mw_ready.specs.Boards.{step_of}
+use Rattle.mw_ready.specs.Boards.{step_on_grid}
 use Rattle.mw_ready.specs.Counters.{Raises}
 use Rattle.mw_ready.specs.Kept.{seen_by}
 use Rattle.mw_ready.specs.Spans.{AreSpans, span_of, tiles_spanned}
@@ -123,9 +123,9 @@ row_next g s step times row tiles columns old now out row-lt tiles-is columns-is
 
 -- all rows of a step
 pub rows_done : (g : Tiling) (f : ℕ → ℕ) (step row : ℕ) (old now : List ℕ) → row ≡ rows_of g → Raises (λ u. bit (in_range (step * tile_count g) (step * tile_count g + row * columns_of g) u) * f u) old now
-    → Raises (λ u. bit (nat_eq step (step_of g u)) * f u) old now
+    → Raises (λ u. bit (nat_eq step (step_on_grid g u)) * f u) old now
 rows_done g f step row old now is raises =
-    raises_same (λ u. bit (in_range (step * tile_count g) (step * tile_count g + row * columns_of g) u) * f u) (λ u. bit (nat_eq step (step_of g u)) * f u) old now
+    raises_same (λ u. bit (in_range (step * tile_count g) (step * tile_count g + row * columns_of g) u) * f u) (λ u. bit (nat_eq step (step_on_grid g u)) * f u) old now
     (λ u. ap (λ (k : ℕ). bit (in_range (step * tile_count g) (step * tile_count g + k * columns_of g) u) * f u) is ∙ ap (λ (v : Bool). bit v * f u) (in_step step (tile_count g) u (some_tiles g))) raises
 
 -- ---- the readers of tasks

@@ -15,12 +15,12 @@ pub record Raises (more : ℕ → ℕ) (old now : List ℕ) : Type 0 where
   pub each : (t : ℕ) → t < length old → slice_index now t ≡ slice_index old t + more t
 
 -- no place is 0 where this is true
-abbrev pub Counted : (ℕ → Bool) → List ℕ → Type 0
-Counted here counts = (t : ℕ) → t < length counts → here t ≡ true → 0 < slice_index counts t
+abbrev pub NoneIsZero : (ℕ → Bool) → List ℕ → Type 0
+NoneIsZero here counts = (t : ℕ) → t < length counts → here t ≡ true → 0 < slice_index counts t
 
 -- the tasks where this is true wait and are idle
-abbrev pub Waiting : (ℕ → Bool) → Queued → Type 0
-Waiting here q = (t : ℕ) → t < length q.waiting → here t ≡ true → (0 < slice_index q.waiting t) × (flag q.started t ≡ false)
+abbrev pub AreWaiting : (ℕ → Bool) → Queued → Type 0
+AreWaiting here q = (t : ℕ) → t < length q.waiting → here t ≡ true → (0 < slice_index q.waiting t) × (flag q.started t ≡ false)
 
 -- apart from counters and lists the queue is as it was
 pub record SameTiles (old now : Queued) : Type 0 where

@@ -8,7 +8,7 @@ use Rattle.mw_model.specs.Tasks as tasks
 use Rattle.mw_model.specs.Tasks.{Progress, nothing_planned, is_step}
 use Rattle.mw_grid.specs.Grids.{tiles_of}
 use Rattle.mw_ready.specs.declared.need.Need.{Need}
-use Rattle.mw_ready.specs.Boards.{Schedule, step_reads, no_need, task_count, reads, is_ready, is_running, ready_tasks, running_tasks, remaining_tasks}
+use Rattle.mw_ready.specs.Boards.{Schedule, step_reads, no_need, task_count_on, reads_by_needs, is_ready_on, is_running_on, ready_tasks_on, running_tasks_on, remaining_tasks_on}
 
 -- the need is that of a planned step: its reach, and the steps among its sources
 pub record IsNeedOf (n : Need) (q : Planned) : Type 0 where
@@ -27,10 +27,10 @@ pub record IsBoardOf (b : Schedule) (p : Progress) : Type 0 where
 
 -- the tasks of a board are those of the work: as many, with the same reading what, and the same ready, running and left
 pub record SameTasks (b : Schedule) (p : Progress) : Type 0 where
-  pub count : tasks.task_count p ≡ task_count b
-  pub reads : (n u : ℕ) → n < task_count b → tasks.reads p n u ≡ reads b.needs b.grid n u
-  pub ready : (n : ℕ) → n < task_count b → tasks.is_ready p n ≡ is_ready b n
-  pub running : (n : ℕ) → tasks.is_running p n ≡ is_running b n
-  pub ready_tasks : tasks.ready_tasks p ≡ ready_tasks b
-  pub running_tasks : tasks.running_tasks p ≡ running_tasks b
-  pub remaining_tasks : tasks.remaining_tasks p ≡ remaining_tasks b
+  pub count : tasks.task_count p ≡ task_count_on b
+  pub reads : (n u : ℕ) → n < task_count_on b → tasks.reads p n u ≡ reads_by_needs b.needs b.grid n u
+  pub ready : (n : ℕ) → n < task_count_on b → tasks.is_ready p n ≡ is_ready_on b n
+  pub running : (n : ℕ) → tasks.is_running p n ≡ is_running_on b n
+  pub ready_tasks : tasks.ready_tasks p ≡ ready_tasks_on b
+  pub running_tasks : tasks.running_tasks p ≡ running_tasks_on b
+  pub remaining_tasks : tasks.remaining_tasks p ≡ remaining_tasks_on b

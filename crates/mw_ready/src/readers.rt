@@ -3,7 +3,7 @@
 ghost use Rattle.std.specs.Prelude.{◌≡◌, ℕ, ◌*◌, ◌<◌, ◌≤◌, ◌^◌, length};
 ghost use Rattle.mw_grid.specs.Grids.{tile_count};
 ghost use Rattle.mw_ready.specs.Boards.{reads_tile};
-ghost use Rattle.mw_ready.specs.Counters.{Lowers, Waiting, SameTiles};
+ghost use Rattle.mw_ready.specs.Counters.{Lowers, AreWaiting, SameTiles};
 ghost use Rattle.mw_ready.specs.Links.{Linked};
 
 use crate::links::{Link, first_reader, next_reader};
@@ -27,7 +27,7 @@ pub(crate) fn release_readers(
     requires small { length queue.old.waiting < 2 ^ 31 }
     requires steps { length needs.now ≤ 65535 }
     requires linked { Linked needs.now links.now 0 }
-    requires waiting { Waiting (λ t. reads_tile needs.now grid t step tile) queue.old }
+    requires waiting { AreWaiting (λ t. reads_tile needs.now grid t step tile) queue.old }
     ensures same { SameTiles queue.old queue.new }
     ensures lowers { Lowers (λ t. reads_tile needs.now grid t step tile) queue.old.waiting queue.new.waiting }
 {

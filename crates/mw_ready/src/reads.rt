@@ -4,8 +4,8 @@ ghost use Rattle.std.specs.Prelude.{◌≡◌, ℕ, ◌+◌, ◌*◌, ◌%◌, �
 ghost use Rattle.mw_grid.specs.Counts.{bit, in_range};
 ghost use Rattle.mw_grid.specs.Grids.{columns_of, rows_of, tile_count};
 ghost use Rattle.mw_grid.specs.Blocks.{IsBlock, in_block};
-ghost use Rattle.mw_ready.specs.Boards.{is_source, step_of, step_reads};
-ghost use Rattle.mw_ready.specs.Counters.{Lowers, Raises, Counted};
+ghost use Rattle.mw_ready.specs.Boards.{is_source, step_on_grid, step_reads};
+ghost use Rattle.mw_ready.specs.Counters.{Lowers, Raises, NoneIsZero};
 ghost use Rattle.mw_ready.specs.Kept.{reader_count, seen_by, takes};
 ghost use Rattle.mw_ready.specs.Spans.{AreSpans, tiles_spanned};
 
@@ -22,7 +22,7 @@ fn raise_source(counts: &mut [u32], grid: Grid, spans: &Spans, steps: u32, sourc
     requires small { length counts.old < 2 ^ 31 }
     requires low { (row : ℕ) → row < rows_of grid → slice_index spans.now.down row ≤ 128 }
     requires fits { (u : ℕ) → u < length counts.old → slice_index counts.old u + tiles_spanned grid spans.now (u % tile_count grid) < 2 ^ 32 }
-    ensures { Raises (λ u. bit (is_source (step_of grid u) source) * tiles_spanned grid spans.now (u % tile_count grid)) counts.old counts.new }
+    ensures { Raises (λ u. bit (is_source (step_on_grid grid u) source) * tiles_spanned grid spans.now (u % tile_count grid)) counts.old counts.new }
 {
     if let Some(step) = source {
         if step < steps {
@@ -37,7 +37,7 @@ fn raise_sources(counts: &mut [u32], grid: Grid, spans: &Spans, need: Need, step
     requires small { length counts.old < 2 ^ 31 }
     requires spans { AreSpans grid spans.now (seen_by grid need.reach) }
     requires fits { (u : ℕ) → u < length counts.old → slice_index counts.old u + 3 * tile_count grid < 2 ^ 32 }
-    ensures { Raises (λ u. bit (step_reads need (step_of grid u)) * seen_by grid need.reach (u % tile_count grid)) counts.old counts.new }
+    ensures { Raises (λ u. bit (step_reads need (step_on_grid grid u)) * seen_by grid need.reach (u % tile_count grid)) counts.old counts.new }
 {
     let (first, second, third) = sources(need);
     raise_source(counts, grid, spans, steps, first);
@@ -66,7 +66,7 @@ pub(crate) fn first_readers(alloc: Global, needs: &[Need], grid: Grid) -> Result
 fn lower_row(counts: &mut [u32], from: u32, to: u32)
     requires ordered { from ≤ to }
     requires fits { to ≤ length counts.old }
-    requires some { Counted (in_range from to) counts.old }
+    requires some { NoneIsZero (in_range from to) counts.old }
     ensures { Lowers (in_range from to) counts.old counts.new }
 {
     for task in from..to {
@@ -80,7 +80,7 @@ fn lower_block(counts: &mut [u32], grid: Grid, block: Block)
     requires across { block.right ≤ columns_of grid }
     requires fits { block.bottom * columns_of grid ≤ length counts.old }
     requires small { length counts.old < 2 ^ 31 }
-    requires some { Counted (in_block grid block) counts.old }
+    requires some { NoneIsZero (in_block grid block) counts.old }
     ensures { Lowers (in_block grid block) counts.old counts.new }
 {
     let columns = grid.columns();
@@ -98,8 +98,8 @@ fn lower_source(counts: &mut [u32], grid: Grid, block: Block, steps: u32, source
     requires within { IsBlock grid block }
     requires size { length counts.old ≡ steps * tile_count grid }
     requires small { length counts.old < 2 ^ 31 }
-    requires some { Counted (λ u. is_source (step_of grid u) source && in_block grid block (u % tile_count grid)) counts.old }
-    ensures { Lowers (λ u. is_source (step_of grid u) source && in_block grid block (u % tile_count grid)) counts.old counts.new }
+    requires some { NoneIsZero (λ u. is_source (step_on_grid grid u) source && in_block grid block (u % tile_count grid)) counts.old }
+    ensures { Lowers (λ u. is_source (step_on_grid grid u) source && in_block grid block (u % tile_count grid)) counts.old counts.new }
 {
     if let Some(step) = source {
         if step < steps {
@@ -113,7 +113,7 @@ pub(crate) fn lower_sources(counts: &mut [u32], grid: Grid, need: Need, steps: u
     requires tile { tile < tile_count grid }
     requires size { length counts.old ≡ steps * tile_count grid }
     requires small { length counts.old < 2 ^ 31 }
-    requires some { Counted (takes need grid tile) counts.old }
+    requires some { NoneIsZero (takes need grid tile) counts.old }
     ensures { Lowers (takes need grid tile) counts.old counts.new }
 {
     let block = Block::met_by(grid, tile, need.reach);

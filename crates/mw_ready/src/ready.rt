@@ -51,7 +51,7 @@ impl Ready {
     ghost use Rattle.std.specs.List.{list_all, list_any};
     ghost use Rattle.mw_model.specs.Tasks.{flag};
     ghost use Rattle.mw_grid.specs.Grids.{tile_count};
-    ghost use Rattle.mw_ready.specs.Boards.{task_count, tasks_below, task_number, step_of, no_need, reads, is_ready, ready_tasks, running_tasks, remaining_tasks, fresh, Runs};
+    ghost use Rattle.mw_ready.specs.Boards.{task_count_on, tasks_on, task_number, step_on_grid, no_need, reads_by_needs, is_ready_on, ready_tasks_on, running_tasks_on, remaining_tasks_on, fresh_schedule, RunsOn};
 
     /// All tasks of a plan with these needs, none of them started.
     ///
@@ -60,7 +60,7 @@ impl Ready {
     /// `NoMemory`, where about twelve bytes for each task, and sixteen more for each step, are not to be had.
     pub fn new(alloc: Global, needs: Vec<Need>, grid: Grid) -> Result<Ready, NoMemory>
         requires { vec_len needs ≤ 65535 }
-        ensures { IfOk result (λ r. r.board ≡ fresh needs.items grid) }
+        ensures { IfOk result (λ r. r.board ≡ fresh_schedule needs.items grid) }
     {
         let tiles = grid.len();
         let waiting = first_waits(alloc, &needs, grid)?;
@@ -83,7 +83,7 @@ impl Ready {
 
     /// How many tasks are ready.
     pub fn count(&self) -> u32
-        ensures value { result ≡ ready_tasks self.now.board }
+        ensures value { result ≡ ready_tasks_on self.now.board }
         ensures order { result ≡ length self.now.order }
     {
         self.queue.count()
@@ -91,22 +91,22 @@ impl Ready {
 
     /// How many tasks are started and not finished.
     pub fn running(&self) -> u32
-        ensures { result ≡ running_tasks self.now.board }
+        ensures { result ≡ running_tasks_on self.now.board }
     {
         self.running
     }
 
     /// How many tasks are not finished.
     pub fn remaining(&self) -> u32
-        ensures { result ≡ remaining_tasks self.now.board }
+        ensures { result ≡ remaining_tasks_on self.now.board }
     {
         self.remaining
     }
 
     /// Whether there is such a task, and it is running. All that a task reads is finished before it is started.
     pub fn is_running(&self, step: u32, tile: u32) -> bool
-        ensures value { IsTrue result ↔ Runs self.now.board step tile }
-        ensures calm { (n : ℕ) → n < task_count self.now.board → flag self.now.board.started n ≡ true → list_all (λ u. not (reads self.now.board.needs self.now.board.grid n u) || flag self.now.board.finished u) (tasks_below self.now.board) ≡ true }
+        ensures value { IsTrue result ↔ RunsOn self.now.board step tile }
+        ensures calm { (n : ℕ) → n < task_count_on self.now.board → flag self.now.board.started n ≡ true → list_all (λ u. not (reads_by_needs self.now.board.needs self.now.board.grid n u) || flag self.now.board.finished u) (tasks_on self.now.board) ≡ true }
     {
         let tiles = self.grid.len();
         if step as usize >= self.needs.len() || tile >= tiles {
@@ -120,7 +120,7 @@ impl Ready {
     pub fn is_read(&self, step: u32, tile: u32) -> bool
         requires step { step < length self.now.board.needs }
         requires tile { tile < tile_count self.now.board.grid }
-        ensures { result ≡ list_any (λ u. not (flag self.now.board.finished u) && reads self.now.board.needs self.now.board.grid u (task_number self.now.board.grid step tile)) (tasks_below self.now.board) }
+        ensures { result ≡ list_any (λ u. not (flag self.now.board.finished u) && reads_by_needs self.now.board.needs self.now.board.grid u (task_number self.now.board.grid step tile)) (tasks_on self.now.board) }
     {
         let task = step * self.grid.len() + tile;
         self.readers[task as usize] > 0
@@ -151,23 +151,23 @@ impl Ready {
     /// The step and the tile of the ready task that `start` takes at this place. At place 0 it is a task of the latest
     /// step that has a ready one, so that what is read is soon read to its end.
     pub fn task_at(&self, place: u32) -> (u32, u32)
-        requires { place < ready_tasks self.now.board }
+        requires { place < ready_tasks_on self.now.board }
         ensures value { task_number self.now.board.grid result.0 result.1 ≡ slice_index self.now.order place }
         ensures step { result.0 < length self.now.board.needs }
         ensures tile { result.1 < tile_count self.now.board.grid }
-        ensures ready { is_ready self.now.board (task_number self.now.board.grid result.0 result.1) ≡ true }
-        ensures latest { place ≡ 0 → (n : ℕ) → n < task_count self.now.board → is_ready self.now.board n ≡ true → step_of self.now.board.grid n ≤ result.0 }
+        ensures ready { is_ready_on self.now.board (task_number self.now.board.grid result.0 result.1) ≡ true }
+        ensures latest { place ≡ 0 → (n : ℕ) → n < task_count_on self.now.board → is_ready_on self.now.board n ≡ true → step_on_grid self.now.board.grid n ≤ result.0 }
     {
         self.queue.task_at(place)
     }
 
     /// Starts the ready task at a place of the order: its step and its tile.
     pub fn start(&mut self, place: u32) -> (u32, u32)
-        requires { place < ready_tasks self.old.board }
+        requires { place < ready_tasks_on self.old.board }
         ensures value { task_number self.old.board.grid result.0 result.1 ≡ slice_index self.old.order place }
         ensures step { result.0 < length self.old.board.needs }
         ensures tile { result.1 < tile_count self.old.board.grid }
-        ensures ready { is_ready self.old.board (task_number self.old.board.grid result.0 result.1) ≡ true }
+        ensures ready { is_ready_on self.old.board (task_number self.old.board.grid result.0 result.1) ≡ true }
         ensures new { self.new.board ≡ record self.old.board { started = slice_set self.old.board.started (task_number self.old.board.grid result.0 result.1) true } }
     {
         let task = self.queue.take(place);
@@ -177,7 +177,7 @@ impl Ready {
 
     /// A running task is finished.
     pub fn finish(&mut self, step: u32, tile: u32)
-        requires { Runs self.old.board step tile }
+        requires { RunsOn self.old.board step tile }
         ensures { self.new.board ≡ record self.old.board { finished = slice_set self.old.board.finished (task_number self.old.board.grid step tile) true } }
     {
         let task = step * self.grid.len() + tile;

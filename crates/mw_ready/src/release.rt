@@ -4,7 +4,7 @@ ghost use Rattle.std.specs.Prelude.{◌≡◌, ◌+◌, ◌*◌, ◌<◌, ◌≤
 ghost use Rattle.mw_grid.specs.Counts.{in_range};
 ghost use Rattle.mw_grid.specs.Grids.{columns_of, rows_of, tile_count};
 ghost use Rattle.mw_grid.specs.Blocks.{in_block};
-ghost use Rattle.mw_ready.specs.Counters.{Lowers, Waiting, SameTiles};
+ghost use Rattle.mw_ready.specs.Counters.{Lowers, AreWaiting, SameTiles};
 ghost use Rattle.mw_ready.specs.Kept.{is_near};
 
 use mw_grid::{Block, Grid};
@@ -15,7 +15,7 @@ use mw_ready_queue::Queue;
 fn release_row(queue: &mut Queue, from: u32, to: u32)
     requires ordered { from ≤ to }
     requires fits { to ≤ length queue.old.waiting }
-    requires waiting { Waiting (in_range from to) queue.old }
+    requires waiting { AreWaiting (in_range from to) queue.old }
     ensures same { SameTiles queue.old queue.new }
     ensures lowers { Lowers (in_range from to) queue.old.waiting queue.new.waiting }
 {
@@ -30,7 +30,7 @@ fn release_block(queue: &mut Queue, grid: Grid, block: Block)
     requires across { block.right ≤ columns_of grid }
     requires fits { block.bottom * columns_of grid ≤ length queue.old.waiting }
     requires small { length queue.old.waiting < 2 ^ 31 }
-    requires waiting { Waiting (in_block grid block) queue.old }
+    requires waiting { AreWaiting (in_block grid block) queue.old }
     ensures same { SameTiles queue.old queue.new }
     ensures lowers { Lowers (in_block grid block) queue.old.waiting queue.new.waiting }
 {
@@ -49,7 +49,7 @@ pub(crate) fn release_tiles(queue: &mut Queue, grid: Grid, reach: Reach, step: u
     requires tile { tile < tile_count grid }
     requires fits { (step * rows_of grid + rows_of grid) * columns_of grid ≤ length queue.old.waiting }
     requires small { length queue.old.waiting < 2 ^ 31 }
-    requires waiting { Waiting (is_near grid reach step tile) queue.old }
+    requires waiting { AreWaiting (is_near grid reach step tile) queue.old }
     ensures same { SameTiles queue.old queue.new }
     ensures lowers { Lowers (is_near grid reach step tile) queue.old.waiting queue.new.waiting }
 {

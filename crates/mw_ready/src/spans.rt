@@ -6,7 +6,7 @@ ghost use Rattle.std.specs.Prelude.{◌≡◌, ℕ, ◌+◌, ◌-◌, ◌*◌, �
 ghost use Rattle.mw_grid.specs.Blocks.{sees};
 ghost use Rattle.mw_grid.specs.Counts.{bit, count_below, in_range};
 ghost use Rattle.mw_grid.specs.Grids.{rows_of, tile_count};
-ghost use Rattle.mw_ready.specs.Boards.{step_of};
+ghost use Rattle.mw_ready.specs.Boards.{step_on_grid};
 ghost use Rattle.mw_ready.specs.Counters.{Raises};
 ghost use Rattle.mw_ready.specs.Kept.{seen_by};
 ghost use Rattle.mw_ready.specs.Spans.{AreSpans, span_of, tiles_spanned};
@@ -35,7 +35,7 @@ fn span(count: u32, side: u32, at: u32, before: u32, after: u32) -> u32
     u64::from(count).min(last + 1) as u32 - first
 }
 
-/// The same for each piece of the line.
+/// How many pieces each piece of the line spans when it is so grown.
 fn along(found: &mut [u8], count: u32, side: u32, before: u32, after: u32)
     requires some { 0 < side }
     requires few { count ≤ 128 }
@@ -106,7 +106,7 @@ pub(crate) fn raise_step(counts: &mut [u32], grid: Grid, spans: &Spans, step: u3
     requires few { times ≤ 65535 }
     requires low { (row : ℕ) → row < rows_of grid → slice_index spans.now.down row ≤ 128 }
     requires fits { (u : ℕ) → u < length counts.old → slice_index counts.old u + times * tiles_spanned grid spans.now (u % tile_count grid) < 2 ^ 32 }
-    ensures { Raises (λ u. bit (nat_eq step (step_of grid u)) * (times * tiles_spanned grid spans.now (u % tile_count grid))) counts.old counts.new }
+    ensures { Raises (λ u. bit (nat_eq step (step_on_grid grid u)) * (times * tiles_spanned grid spans.now (u % tile_count grid))) counts.old counts.new }
 {
     let columns = grid.columns();
     let first = step * grid.len();

@@ -12,7 +12,7 @@ use Rattle.mw_model.specs.Tasks.{flag}
 use Rattle.mw_grid.proofs.Lines.{row_less, number_of}
 use Rattle.mw_grid.specs.Counts.{bit, count_below}
 use Rattle.mw_ready_queue.specs.Queues.{is_open, list_at, Queued, IsQueue, Listed}
-use Rattle.mw_ready_queue.specs.Shown.{items_of, HasRoom}
+use Rattle.mw_ready_queue.specs.Shown.{items_of, ListsHaveRoom}
 use Rattle.mw_grid.proofs.Counts.{count-add, count-more, bit-at, bit-other, count-less}
 use Rattle.mw_ready_queue.proofs.Lists.{listed-push, listed-swap_remove, listed-same, listed-at, length-of_listed}
 use Rattle.mw_ready_queue.proofs.Orders.{list_at-items}
@@ -185,7 +185,7 @@ latest_open q total step t queue none lt opened =
 pub items-set : (lists : List (Vec ℕ)) (s : ℕ) (v : Vec ℕ) (xs : List ℕ) → v.items ≡ xs → items_of (set lists s v) ≡ set (items_of lists) s xs
 items-set lists s v xs e = map-set (λ (w : Vec ℕ). w.items) lists s v ∙ ap (set (items_of lists) s) e
 
-pub room-set : (n s : ℕ) (lists : List (Vec ℕ)) (v : Vec ℕ) → HasRoom n lists → s < length lists → n ≤ vec_capacity v → HasRoom n (set lists s v)
+pub room-set : (n s : ℕ) (lists : List (Vec ℕ)) (v : Vec ℕ) → ListsHaveRoom n lists → s < length lists → n ≤ vec_capacity v → ListsHaveRoom n (set lists s v)
 room-set n s lists v room lt le = λ k w k-lt.
     let size : length (set lists s v) ≡ length lists = simp length-set in
     elim (cases_eq k s) [
@@ -193,7 +193,7 @@ room-set n s lists v room lt le = λ k w k-lt.
       | inr ne ↦ subst (λ (x : Vec ℕ). n ≤ vec_capacity x) (sym (get_or-set_other lists s k v w ne)) (room k w (omega arith))
     ]
 
-pub room-at : (n s : ℕ) (lists : List (Vec ℕ)) (v : Vec ℕ) → HasRoom n lists → s < length lists → v ≡ get_or lists s v → n ≤ vec_capacity v
+pub room-at : (n s : ℕ) (lists : List (Vec ℕ)) (v : Vec ℕ) → ListsHaveRoom n lists → s < length lists → v ≡ get_or lists s v → n ≤ vec_capacity v
 room-at n s lists v room lt is = subst (λ (x : Vec ℕ). n ≤ vec_capacity x) (sym is) (room s v lt)
 
 pub length-items_of : (lists : List (Vec ℕ)) → length (items_of lists) ≡ length lists
@@ -217,7 +217,7 @@ listed-more waiting tiles k lists now v size now-is new old s lt =
           subst (λ (j : ℕ). Listed tiles (λ t. free waiting (j * tiles + t)) (list_at (items_of now) j)) e (subst (λ (xs : List ℕ). Listed tiles (λ t. free waiting (k * tiles + t)) xs) (sym last) new)
     ]
 
-pub room-more : (n k : ℕ) (lists now : List (Vec ℕ)) (v : Vec ℕ) → now ≡ lists ++ v ∷ [] → n ≤ vec_capacity v → HasRoom n lists → HasRoom n now
+pub room-more : (n k : ℕ) (lists now : List (Vec ℕ)) (v : Vec ℕ) → now ≡ lists ++ v ∷ [] → n ≤ vec_capacity v → ListsHaveRoom n lists → ListsHaveRoom n now
 room-more n k lists now v now-is le room = λ s w lt.
     let size : length now ≡ length lists + 1 = ap (λ (ys : List (Vec ℕ)). length ys) now-is ∙ length-append lists (v ∷ []) in
     elim (cases_lt s (length lists)) [

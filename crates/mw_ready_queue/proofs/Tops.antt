@@ -3,21 +3,21 @@ use Rattle.std.proofs.Common.{◌≡◌, ℕ, zero, suc, ◌+◌, ◌*◌, ◌<�
 use Rattle.std.specs.Global.{Vec}
 use Rattle.std.proofs.lemmas.Bool.{cases_lt}
 use Rattle.std.proofs.lemmas.List.{get_or-set_other, nil_from_length}
-use Rattle.mw_ready_queue.specs.Queues.{list_at, handed, IsTop}
+use Rattle.mw_ready_queue.specs.Queues.{list_at, tasks_handed, IsTop}
 use Rattle.mw_ready_queue.specs.Shown.{items_of}
 use Rattle.mw_ready_queue.proofs.Opens.{items-set}
 
 -- the open tasks stand in the lists below
-handed-top : (lists : List (List ℕ)) (tiles top n : ℕ) → IsTop lists top → top ≤ n → n ≤ length lists → handed lists tiles n ≡ handed lists tiles top
-handed-top lists tiles top zero is le within = ap (handed lists tiles) (let e : zero ≡ top = omega arith in e)
+handed-top : (lists : List (List ℕ)) (tiles top n : ℕ) → IsTop lists top → top ≤ n → n ≤ length lists → tasks_handed lists tiles n ≡ tasks_handed lists tiles top
+handed-top lists tiles top zero is le within = ap (tasks_handed lists tiles) (let e : zero ≡ top = omega arith in e)
 handed-top lists tiles top (suc n) is le within = elim (cases_lt n top) [
-  | inl reached ↦ ap (handed lists tiles) (let e : suc n ≡ top = omega arith in e)
+  | inl reached ↦ ap (tasks_handed lists tiles) (let e : suc n ≡ top = omega arith in e)
   | inr above ↦
       let none : list_at lists n ≡ [] = nil_from_length (list_at lists n) (is.none n above (omega arith)) in
-      ap (λ (xs : List ℕ). map (λ t. n * tiles + t) xs ++ handed lists tiles n) none ∙ handed-top lists tiles top n is above (omega arith)
+      ap (λ (xs : List ℕ). map (λ t. n * tiles + t) xs ++ tasks_handed lists tiles n) none ∙ handed-top lists tiles top n is above (omega arith)
 ]
 
-pub handed-all : (lists : List (List ℕ)) (tiles top : ℕ) → IsTop lists top → handed lists tiles (length lists) ≡ handed lists tiles top
+pub handed-all : (lists : List (List ℕ)) (tiles top : ℕ) → IsTop lists top → tasks_handed lists tiles (length lists) ≡ tasks_handed lists tiles top
 handed-all lists tiles top is = handed-top lists tiles top (length lists) is is.within (omega arith)
 
 -- a list that has something lies below

@@ -29,13 +29,13 @@ abbrev pub list_at : List (List ℕ) → ℕ → List ℕ
 list_at lists s = slice_index_or lists s []
 
 -- the open tasks of the first n steps, those of the latest step first
-abbrev pub handed : List (List ℕ) → ℕ → ℕ → List ℕ
-handed lists tiles zero = []
-handed lists tiles (suc n) = map (λ t. n * tiles + t) (list_at lists n) ++ handed lists tiles n
+abbrev pub tasks_handed : List (List ℕ) → ℕ → ℕ → List ℕ
+tasks_handed lists tiles zero = []
+tasks_handed lists tiles (suc n) = map (λ t. n * tiles + t) (list_at lists n) ++ tasks_handed lists tiles n
 
 -- all open tasks in that order
 abbrev pub order_of : Queued → List ℕ
-order_of q = handed q.ready q.tiles (length q.ready)
+order_of q = tasks_handed q.ready q.tiles (length q.ready)
 
 -- The lists of a queue have its open tasks, and their number is kept.
 pub record IsQueue (q : Queued) (total : ℕ) : Type 0 where

@@ -11,5 +11,5 @@ abbrev pub queue_of : List Bool → List ℕ → ℕ → List (Vec ℕ) → Queu
 queue_of started waiting tiles lists = record { started = started; waiting = waiting; tiles = tiles; ready = items_of lists }
 
 -- each list has room for so many
-abbrev pub HasRoom : ℕ → List (Vec ℕ) → Type 0
-HasRoom n lists = (s : ℕ) (v : Vec ℕ) → s < length lists → n ≤ vec_capacity (slice_index_or lists s v)
+abbrev pub ListsHaveRoom : ℕ → List (Vec ℕ) → Type 0
+ListsHaveRoom n lists = (s : ℕ) (v : Vec ℕ) → s < length lists → n ≤ vec_capacity (slice_index_or lists s v)

@@ -20,14 +20,14 @@ pub struct Queue {
 
 impl Model for Queue {
     ghost use Rattle.mw_ready_queue.specs.Queues.{Queued, IsQueue, IsTop};
-    ghost use Rattle.mw_ready_queue.specs.Shown.{queue_of, items_of, HasRoom};
+    ghost use Rattle.mw_ready_queue.specs.Shown.{queue_of, items_of, ListsHaveRoom};
 
     ghost Value = { Queued };
 
     ghost view = { λ a. queue_of a.started.items a.waiting.items a.tiles a.ready.items };
 
     ghost invariant = { λ a. IsQueue (queue_of a.started.items a.waiting.items a.tiles a.ready.items) a.total
-        × HasRoom a.tiles a.ready.items
+        × ListsHaveRoom a.tiles a.ready.items
         × IsTop (items_of a.ready.items) a.top };
 }
 

@@ -6,7 +6,7 @@ use Rattle.std.proofs.lemmas.Bool.{cases_Bool}
 use Rattle.std.proofs.lemmas.List.FromFn.{map-range_with_len_more}
 use Rattle.std.proofs.lemmas.List.Sums.{sum_by-le}
 use Rattle.std.proofs.Math.Nat.{le_antisymm}
-use Rattle.mw_model.specs.declared.places.Offset.{Offset}
+use Rattle.mw_model.specs.declared.offsets.Offset.{Offset}
 use Rattle.mw_model.specs.declared.shapes.Kind.TheVariants.{Grey}
 use Rattle.mw_model.specs.Pictures.{Picture, sample, drawn, redrawn, IsPicture, IsSmallPicture}
 use Rattle.mw_model.specs.Flat.{erosion, dilation, reflected}

@@ -1,6 +1,6 @@
 //! Elements of the reference.
 
-use crate::PlainImage;
+use crate::ReferenceImage;
 use mw_model::Offset;
 use std::marker::Model;
 
@@ -13,7 +13,7 @@ pub struct Element<'a> {
 
 impl<'a> Model for Element<'a> {
     ghost use Rattle.std.specs.Prelude.{List, if◌then◌else◌};
-    ghost use Rattle.mw_model.specs.declared.places.Offset.{Offset};
+    ghost use Rattle.mw_model.specs.declared.offsets.Offset.{Offset};
     ghost use Rattle.mw_model.specs.Flat.{reflected};
 
     ghost Value = { List Offset };
@@ -53,7 +53,7 @@ impl<'a> Element<'a> {
     }
 
     /// The sample under pixel i of the element placed at column x of row y, where the frame has that place.
-    pub fn sample_under(&self, i: usize, image: &PlainImage, x: u32, y: u32) -> Option<u16>
+    pub fn sample_under(&self, i: usize, image: &ReferenceImage, x: u32, y: u32) -> Option<u16>
         requires { i < length self.now }
         ensures { let b = slice_index_or self.now i (record { dx = pos 0; dy = pos 0 }) in result ≡ sample_at image.now (pos x +ℤ b.dx) (pos y +ℤ b.dy) }
     {

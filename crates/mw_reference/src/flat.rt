@@ -5,7 +5,7 @@ ghost use Rattle.std.specs.Option.{option_to_list};
 ghost use Rattle.mw_model.specs.Pictures.{sample};
 ghost use Rattle.mw_model.specs.Flat.{under, least, greatest, erosion, dilation, opening, closing, minus, gradient, white_top_hat, black_top_hat, threshold, complement, hit_or_miss, intersection, set_hit_or_miss};
 
-use crate::PlainImage;
+use crate::ReferenceImage;
 use crate::elements::Element;
 use crate::pixels::{Pixels, draw, redraw};
 use mw_model::{Kind, NoMemory, Offset};
@@ -33,7 +33,7 @@ fn greater(best: u16, seen: Option<u16>) -> u16
 
 #[derive(Drop)]
 struct Least<'a> {
-    image: &'a PlainImage,
+    image: &'a ReferenceImage,
     element: &'a Element<'a>,
 }
 
@@ -52,7 +52,7 @@ impl Pixels for Least<'_> {
 
 #[derive(Drop)]
 struct Greatest<'a> {
-    image: &'a PlainImage,
+    image: &'a ReferenceImage,
     element: &'a Element<'a>,
 }
 
@@ -71,8 +71,8 @@ impl Pixels for Greatest<'_> {
 
 #[derive(Drop)]
 struct Less<'a> {
-    image: &'a PlainImage,
-    other: &'a PlainImage,
+    image: &'a ReferenceImage,
+    other: &'a ReferenceImage,
 }
 
 impl Pixels for Less<'_> {
@@ -87,7 +87,7 @@ impl Pixels for Less<'_> {
 
 #[derive(Drop)]
 struct AtLeast<'a> {
-    image: &'a PlainImage,
+    image: &'a ReferenceImage,
     level: u32,
 }
 
@@ -105,7 +105,7 @@ impl Pixels for AtLeast<'_> {
 
 #[derive(Drop)]
 struct Rest<'a> {
-    image: &'a PlainImage,
+    image: &'a ReferenceImage,
 }
 
 impl Pixels for Rest<'_> {
@@ -118,8 +118,8 @@ impl Pixels for Rest<'_> {
 
 #[derive(Drop)]
 struct Both<'a> {
-    image: &'a PlainImage,
-    other: &'a PlainImage,
+    image: &'a ReferenceImage,
+    other: &'a ReferenceImage,
 }
 
 impl Pixels for Both<'_> {
@@ -137,9 +137,9 @@ impl Pixels for Both<'_> {
 /// The erosion by an element as it lies.
 pub fn least_under(
     alloc: Global,
-    image: &PlainImage,
+    image: &ReferenceImage,
     element: &Element,
-) -> Result<PlainImage, NoMemory>
+) -> Result<ReferenceImage, NoMemory>
     ensures { IfOk result (λ r. r ≡ erosion element.now image.now) }
 {
     redraw(alloc, image, &Least { image, element })
@@ -148,9 +148,9 @@ pub fn least_under(
 /// The dilation by an element as it lies.
 pub fn greatest_under(
     alloc: Global,
-    image: &PlainImage,
+    image: &ReferenceImage,
     element: &Element,
-) -> Result<PlainImage, NoMemory>
+) -> Result<ReferenceImage, NoMemory>
     ensures { IfOk result (λ r. r ≡ dilation element.now image.now) }
 {
     redraw(alloc, image, &Greatest { image, element })
@@ -159,9 +159,9 @@ pub fn greatest_under(
 /// At each pixel the least sample under the element, or the maxval where there is none.
 pub fn erosion(
     alloc: Global,
-    image: &PlainImage,
+    image: &ReferenceImage,
     element: &[Offset],
-) -> Result<PlainImage, NoMemory>
+) -> Result<ReferenceImage, NoMemory>
     ensures { IfOk result (λ r. r ≡ erosion element.now image.now) }
 {
     least_under(alloc, image, &Element::upright(element))
@@ -170,9 +170,9 @@ pub fn erosion(
 /// At each pixel the greatest sample under the element, or 0 where there is none.
 pub fn dilation(
     alloc: Global,
-    image: &PlainImage,
+    image: &ReferenceImage,
     element: &[Offset],
-) -> Result<PlainImage, NoMemory>
+) -> Result<ReferenceImage, NoMemory>
     ensures { IfOk result (λ r. r ≡ dilation element.now image.now) }
 {
     greatest_under(alloc, image, &Element::upright(element))
@@ -181,9 +181,9 @@ pub fn dilation(
 /// An erosion, and then a dilation by the element turned round.
 pub fn opening(
     alloc: Global,
-    image: &PlainImage,
+    image: &ReferenceImage,
     element: &[Offset],
-) -> Result<PlainImage, NoMemory>
+) -> Result<ReferenceImage, NoMemory>
     ensures { IfOk result (λ r. r ≡ opening element.now image.now) }
 {
     let eroded = erosion(alloc, image, element)?;
@@ -193,9 +193,9 @@ pub fn opening(
 /// A dilation, and then an erosion by the element turned round.
 pub fn closing(
     alloc: Global,
-    image: &PlainImage,
+    image: &ReferenceImage,
     element: &[Offset],
-) -> Result<PlainImage, NoMemory>
+) -> Result<ReferenceImage, NoMemory>
     ensures { IfOk result (λ r. r ≡ closing element.now image.now) }
 {
     let dilated = dilation(alloc, image, element)?;
@@ -203,7 +203,11 @@ pub fn closing(
 }
 
 /// One image less another at each pixel, stopping at 0. The result has the shape of the first.
-pub fn minus(alloc: Global, image: &PlainImage, other: &PlainImage) -> Result<PlainImage, NoMemory>
+pub fn minus(
+    alloc: Global,
+    image: &ReferenceImage,
+    other: &ReferenceImage,
+) -> Result<ReferenceImage, NoMemory>
     ensures { IfOk result (λ r. r ≡ minus image.now other.now) }
 {
     redraw(alloc, image, &Less { image, other })
@@ -212,9 +216,9 @@ pub fn minus(alloc: Global, image: &PlainImage, other: &PlainImage) -> Result<Pl
 /// The dilation less the erosion.
 pub fn gradient(
     alloc: Global,
-    image: &PlainImage,
+    image: &ReferenceImage,
     element: &[Offset],
-) -> Result<PlainImage, NoMemory>
+) -> Result<ReferenceImage, NoMemory>
     ensures { IfOk result (λ r. r ≡ gradient element.now image.now) }
 {
     let dilated = dilation(alloc, image, element)?;
@@ -225,9 +229,9 @@ pub fn gradient(
 /// What an opening takes away.
 pub fn white_top_hat(
     alloc: Global,
-    image: &PlainImage,
+    image: &ReferenceImage,
     element: &[Offset],
-) -> Result<PlainImage, NoMemory>
+) -> Result<ReferenceImage, NoMemory>
     ensures { IfOk result (λ r. r ≡ white_top_hat element.now image.now) }
 {
     let opened = opening(alloc, image, element)?;
@@ -237,9 +241,9 @@ pub fn white_top_hat(
 /// What a closing adds.
 pub fn black_top_hat(
     alloc: Global,
-    image: &PlainImage,
+    image: &ReferenceImage,
     element: &[Offset],
-) -> Result<PlainImage, NoMemory>
+) -> Result<ReferenceImage, NoMemory>
     ensures { IfOk result (λ r. r ≡ black_top_hat element.now image.now) }
 {
     let closed = closing(alloc, image, element)?;
@@ -247,14 +251,18 @@ pub fn black_top_hat(
 }
 
 /// The set of the pixels with a sample of `level` or more.
-pub fn threshold(alloc: Global, image: &PlainImage, level: u32) -> Result<PlainImage, NoMemory>
+pub fn threshold(
+    alloc: Global,
+    image: &ReferenceImage,
+    level: u32,
+) -> Result<ReferenceImage, NoMemory>
     ensures { IfOk result (λ r. r ≡ threshold level image.now) }
 {
     draw(alloc, Kind::Bit, 1, image, &AtLeast { image, level })
 }
 
 /// The maxval less each sample.
-pub fn complement(alloc: Global, image: &PlainImage) -> Result<PlainImage, NoMemory>
+pub fn complement(alloc: Global, image: &ReferenceImage) -> Result<ReferenceImage, NoMemory>
     ensures { IfOk result (λ r. r ≡ complement image.now) }
 {
     redraw(alloc, image, &Rest { image })
@@ -263,10 +271,10 @@ pub fn complement(alloc: Global, image: &PlainImage) -> Result<PlainImage, NoMem
 /// The erosion by the first element less the dilation by the second.
 pub fn hit_or_miss(
     alloc: Global,
-    image: &PlainImage,
+    image: &ReferenceImage,
     hit: &[Offset],
     miss: &[Offset],
-) -> Result<PlainImage, NoMemory>
+) -> Result<ReferenceImage, NoMemory>
     ensures { IfOk result (λ r. r ≡ hit_or_miss hit.now miss.now image.now) }
 {
     let eroded = erosion(alloc, image, hit)?;
@@ -277,9 +285,9 @@ pub fn hit_or_miss(
 /// Of two sets of one size, the pixels that are in both.
 pub fn intersection(
     alloc: Global,
-    image: &PlainImage,
-    other: &PlainImage,
-) -> Result<PlainImage, NoMemory>
+    image: &ReferenceImage,
+    other: &ReferenceImage,
+) -> Result<ReferenceImage, NoMemory>
     requires { 1 ≤ image.now.maxval }
     ensures { IfOk result (λ r. r ≡ intersection image.now other.now) }
 {
@@ -289,10 +297,10 @@ pub fn intersection(
 /// Of a set, the pixels where the first element fits in it and the second in its complement.
 pub fn set_hit_or_miss(
     alloc: Global,
-    image: &PlainImage,
+    image: &ReferenceImage,
     hit: &[Offset],
     miss: &[Offset],
-) -> Result<PlainImage, NoMemory>
+) -> Result<ReferenceImage, NoMemory>
     requires { 1 ≤ image.now.maxval }
     ensures { IfOk result (λ r. r ≡ set_hit_or_miss hit.now miss.now image.now) }
 {

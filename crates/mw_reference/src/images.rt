@@ -8,7 +8,7 @@ use std::marker::Model;
 
 /// An image of at most 8,192 by 8,192 pixels, with its samples in one list.
 #[derive(Debug, Drop)]
-pub struct PlainImage {
+pub struct ReferenceImage {
     kind: Kind,
     width: u32,
     height: u32,
@@ -35,7 +35,7 @@ fn total(numbers: &[u16]) -> u64
     total
 }
 
-impl Model for PlainImage {
+impl Model for ReferenceImage {
     ghost use Rattle.mw_model.specs.Pictures.{Picture, picture, IsSmallPicture};
 
     ghost Value = { Picture };
@@ -45,19 +45,25 @@ impl Model for PlainImage {
     ghost invariant = { λ a. IsSmallPicture (picture a.kind a.width a.height a.maxval a.samples.items) };
 }
 
-impl PlainImage {
+impl ReferenceImage {
     ghost use Rattle.std.specs.Prelude.{◌+ℤ◌, ◌≤◌, ◌*◌, All, vec_len};
     ghost use Rattle.mw_model.specs.Pictures.{picture, sample, sample_at, IsSmallPicture};
 
     /// The image with these samples, by rows from the top.
-    pub fn new(kind: Kind, width: u32, height: u32, maxval: u16, samples: Vec<u16>) -> PlainImage
+    pub fn new(
+        kind: Kind,
+        width: u32,
+        height: u32,
+        maxval: u16,
+        samples: Vec<u16>,
+    ) -> ReferenceImage
         requires columns { width ≤ SIDE_LIMIT }
         requires rows { height ≤ SIDE_LIMIT }
         requires size { vec_len samples ≡ height * width }
         requires bounded { All (λ s. s ≤ maxval) samples.items }
         ensures { result ≡ picture kind width height maxval samples.items }
     {
-        PlainImage {
+        ReferenceImage {
             kind,
             width,
             height,

@@ -5,7 +5,7 @@ ghost use Rattle.mw_model.specs.Pictures.{sample, redrawn};
 ghost use Rattle.mw_model.specs.Flat.{erosion, dilation, reflected};
 ghost use Rattle.mw_model.specs.Iterates.{times, is_residue, skeleton, level_set, union, restoration, volume, spectrum};
 
-use crate::PlainImage;
+use crate::ReferenceImage;
 use crate::elements::Element;
 use crate::flat::{erosion, greatest_under, opening};
 use crate::pixels::{Pixels, draw, redraw};
@@ -14,7 +14,7 @@ use std::alloc::Global;
 
 #[derive(Drop)]
 struct Same<'a> {
-    image: &'a PlainImage,
+    image: &'a ReferenceImage,
 }
 
 impl Pixels for Same<'_> {
@@ -27,7 +27,7 @@ impl Pixels for Same<'_> {
 
 #[derive(Drop)]
 struct Level<'a> {
-    image: &'a PlainImage,
+    image: &'a ReferenceImage,
     level: u32,
 }
 
@@ -45,8 +45,8 @@ impl Pixels for Level<'_> {
 
 #[derive(Drop)]
 struct Greater<'a> {
-    image: &'a PlainImage,
-    other: &'a PlainImage,
+    image: &'a ReferenceImage,
+    other: &'a ReferenceImage,
 }
 
 impl Pixels for Greater<'_> {
@@ -60,9 +60,9 @@ impl Pixels for Greater<'_> {
 /// A mark for the pixels of a set that are not in another; for the rest, what was marked before.
 #[derive(Drop)]
 struct Residue<'a> {
-    eroded: &'a PlainImage,
-    opened: &'a PlainImage,
-    before: &'a PlainImage,
+    eroded: &'a ReferenceImage,
+    opened: &'a ReferenceImage,
+    before: &'a ReferenceImage,
     mark: u16,
 }
 
@@ -81,8 +81,8 @@ impl Pixels for Residue<'_> {
 /// A mark for the pixels of a set; for the rest, what was marked before.
 #[derive(Drop)]
 struct Last<'a> {
-    eroded: &'a PlainImage,
-    before: &'a PlainImage,
+    eroded: &'a ReferenceImage,
+    before: &'a ReferenceImage,
     mark: u16,
 }
 
@@ -109,8 +109,8 @@ impl Pixels for NoMark {
     }
 }
 
-/// The same image once more.
-pub fn copy(alloc: Global, image: &PlainImage) -> Result<PlainImage, NoMemory>
+/// A copy of the image.
+pub fn copy(alloc: Global, image: &ReferenceImage) -> Result<ReferenceImage, NoMemory>
     ensures { IfOk result (λ r. r ≡ image.now) }
 {
     image.is_small();
@@ -120,10 +120,10 @@ pub fn copy(alloc: Global, image: &PlainImage) -> Result<PlainImage, NoMemory>
 /// n erosions.
 pub fn eroded_times(
     alloc: Global,
-    image: &PlainImage,
+    image: &ReferenceImage,
     element: &[Offset],
     n: u32,
-) -> Result<PlainImage, NoMemory>
+) -> Result<ReferenceImage, NoMemory>
     ensures { IfOk result (λ r. r ≡ times n (erosion element.now) image.now) }
 {
     let mut f = copy(alloc, image)?;
@@ -136,10 +136,10 @@ pub fn eroded_times(
 /// n dilations by the element turned round.
 pub fn dilated_back_times(
     alloc: Global,
-    image: &PlainImage,
+    image: &ReferenceImage,
     element: &[Offset],
     n: u32,
-) -> Result<PlainImage, NoMemory>
+) -> Result<ReferenceImage, NoMemory>
     ensures { IfOk result (λ r. r ≡ times n (dilation (reflected element.now)) image.now) }
 {
     let turned = Element::turned(element);
@@ -153,11 +153,11 @@ pub fn dilated_back_times(
 /// The marks, and over them a mark for the pixels of a set that are not in its opening.
 fn with_residue(
     alloc: Global,
-    marks: &PlainImage,
-    eroded: &PlainImage,
+    marks: &ReferenceImage,
+    eroded: &ReferenceImage,
     element: &[Offset],
     mark: u16,
-) -> Result<PlainImage, NoMemory>
+) -> Result<ReferenceImage, NoMemory>
     requires { mark ≤ marks.now.maxval }
     ensures { IfOk result (λ r. r ≡ redrawn marks.now (λ x y. if is_residue element.now eroded.now x y then mark else sample marks.now x y)) }
 {
@@ -178,10 +178,10 @@ fn with_residue(
 /// leaves.
 pub fn skeleton(
     alloc: Global,
-    image: &PlainImage,
+    image: &ReferenceImage,
     element: &[Offset],
     depth: u16,
-) -> Result<PlainImage, NoMemory>
+) -> Result<ReferenceImage, NoMemory>
     requires { depth < 65535 }
     ensures { IfOk result (λ r. r ≡ skeleton element.now depth image.now) }
 {
@@ -203,14 +203,22 @@ pub fn skeleton(
 }
 
 /// The set of the pixels with this sample.
-pub fn level_set(alloc: Global, image: &PlainImage, level: u32) -> Result<PlainImage, NoMemory>
+pub fn level_set(
+    alloc: Global,
+    image: &ReferenceImage,
+    level: u32,
+) -> Result<ReferenceImage, NoMemory>
     ensures { IfOk result (λ r. r ≡ level_set level image.now) }
 {
     draw(alloc, Kind::Bit, 1, image, &Level { image, level })
 }
 
 /// The greater of the two samples at each pixel.
-pub fn union(alloc: Global, image: &PlainImage, other: &PlainImage) -> Result<PlainImage, NoMemory>
+pub fn union(
+    alloc: Global,
+    image: &ReferenceImage,
+    other: &ReferenceImage,
+) -> Result<ReferenceImage, NoMemory>
     requires { other.now.maxval ≤ image.now.maxval }
     ensures { IfOk result (λ r. r ≡ union image.now other.now) }
 {
@@ -221,10 +229,10 @@ pub fn union(alloc: Global, image: &PlainImage, other: &PlainImage) -> Result<Pl
 /// The union, for n up to the depth, of the n-fold dilation of the pixels marked n + 1, by the element turned round.
 pub fn restoration(
     alloc: Global,
-    marks: &PlainImage,
+    marks: &ReferenceImage,
     element: &[Offset],
     depth: u16,
-) -> Result<PlainImage, NoMemory>
+) -> Result<ReferenceImage, NoMemory>
     ensures { IfOk result (λ r. r ≡ restoration element.now depth marks.now) }
 {
     let mut restored = level_set(alloc, marks, 1)?;
@@ -239,7 +247,7 @@ pub fn restoration(
 /// The sum of all samples after n erosions and then n dilations by the element turned round.
 pub fn volume(
     alloc: Global,
-    image: &PlainImage,
+    image: &ReferenceImage,
     element: &[Offset],
     n: u32,
 ) -> Result<u64, NoMemory>
@@ -253,7 +261,7 @@ pub fn volume(
 /// The volumes from 0 to the depth.
 pub fn spectrum(
     alloc: Global,
-    image: &PlainImage,
+    image: &ReferenceImage,
     element: &[Offset],
     depth: u32,
 ) -> Result<Vec<u64>, NoMemory>

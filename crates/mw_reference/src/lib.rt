@@ -1,10 +1,10 @@
 //! The reference: each operator in the slowest honest way, one pixel after the other. Its contracts are the
 //! definitions, so it is what a test compares a fast body with. Tests and benchmarks alone call it; no part of the program stands on it.
 //!
-//! An image is a `PlainImage`, and an element the list of its offsets. What makes an image takes the allocator first:
+//! An image is a `ReferenceImage`, and an element the list of its offsets. What makes an image takes the allocator first:
 //!
 //! ```text
-//! let image = PlainImage::new(Kind::Grey, 5, 1, 9, samples);
+//! let image = ReferenceImage::new(Kind::Grey, 5, 1, 9, samples);
 //! let opened = mw_reference::opening(alloc, &image, &[Offset { dx: -1, dy: 0 }, Offset { dx: 0, dy: 0 }])?;
 //! ```
 #![tactic(auto)]
@@ -20,7 +20,7 @@ pub use flat::{
     black_top_hat, closing, complement, dilation, erosion, gradient, hit_or_miss, intersection,
     minus, opening, set_hit_or_miss, threshold, white_top_hat,
 };
-pub use images::PlainImage;
+pub use images::ReferenceImage;
 pub use iterated::{
     copy, dilated_back_times, eroded_times, level_set, restoration, skeleton, spectrum, union,
     volume,

@@ -4,7 +4,7 @@ ghost use Rattle.std.specs.Prelude.{◌≡◌, ◌↔◌, ◌+◌, ◌-◌, ◌<
 ghost use Rattle.std.specs.Option.{option_to_list};
 ghost use Rattle.mw_model.specs.Flat.{under, rank, in_rising_order};
 
-use crate::PlainImage;
+use crate::ReferenceImage;
 use crate::elements::Element;
 use crate::pixels::{Pixels, redraw};
 use mw_model::{NoMemory, Offset};
@@ -34,7 +34,7 @@ fn one_below(seen: Option<u16>, limit: u32) -> usize
 
 /// How many samples are under the element.
 #[tactic(auto, using(crate::proofs::Loops::all_samples))]
-fn count_seen(image: &PlainImage, element: &Element, x: u32, y: u32) -> usize
+fn count_seen(image: &ReferenceImage, element: &Element, x: u32, y: u32) -> usize
     ensures { result ≡ length (under image.now element.now x y) }
 {
     let mut count = 0;
@@ -46,7 +46,7 @@ fn count_seen(image: &PlainImage, element: &Element, x: u32, y: u32) -> usize
 
 /// How many samples under the element are below the limit.
 #[tactic(auto, using(crate::proofs::Loops::all_samples))]
-fn count_below(image: &PlainImage, element: &Element, x: u32, y: u32, limit: u32) -> usize
+fn count_below(image: &ReferenceImage, element: &Element, x: u32, y: u32, limit: u32) -> usize
     ensures { result ≡ count_by (λ s. nat_lt s limit) (under image.now element.now x y) }
 {
     let mut count = 0;
@@ -57,7 +57,7 @@ fn count_below(image: &PlainImage, element: &Element, x: u32, y: u32, limit: u32
 }
 
 /// Fewer than n samples under the element are below this one, and n or more are not above it.
-fn is_nth(image: &PlainImage, element: &Element, x: u32, y: u32, n: usize, s: u16) -> bool
+fn is_nth(image: &ReferenceImage, element: &Element, x: u32, y: u32, n: usize, s: u16) -> bool
     ensures { IsTrue result ↔ ((count_by (λ t. nat_lt t s) (under image.now element.now x y) < n) × (n ≤ count_by (λ t. nat_lt t (s + 1)) (under image.now element.now x y))) }
 {
     let fewer = count_below(image, element, x, y, u32::from(s));
@@ -66,7 +66,7 @@ fn is_nth(image: &PlainImage, element: &Element, x: u32, y: u32, n: usize, s: u1
 }
 
 /// Of the samples under the element in rising order number k, or the last where there are fewer.
-fn nth_under(image: &PlainImage, element: &Element, x: u32, y: u32, k: u32) -> u16
+fn nth_under(image: &ReferenceImage, element: &Element, x: u32, y: u32, k: u32) -> u16
     ensures { let found = under image.now element.now x y in result ≡ slice_index (in_rising_order found) (min k (length found) - 1) }
 {
     let n = count_seen(image, element, x, y).min(k as usize).max(1);
@@ -82,7 +82,7 @@ fn nth_under(image: &PlainImage, element: &Element, x: u32, y: u32, k: u32) -> u
 
 #[derive(Drop)]
 struct Nth<'a> {
-    image: &'a PlainImage,
+    image: &'a ReferenceImage,
     element: &'a Element<'a>,
     k: u32,
 }
@@ -98,10 +98,10 @@ impl Pixels for Nth<'_> {
 /// The rank filter by an element as it lies.
 fn nth_samples(
     alloc: Global,
-    image: &PlainImage,
+    image: &ReferenceImage,
     element: &Element,
     k: u32,
-) -> Result<PlainImage, NoMemory>
+) -> Result<ReferenceImage, NoMemory>
     ensures { IfOk result (λ r. r ≡ rank element.now k image.now) }
 {
     redraw(alloc, image, &Nth { image, element, k })
@@ -111,10 +111,10 @@ fn nth_samples(
 /// are fewer; 0 where there is none.
 pub fn rank(
     alloc: Global,
-    image: &PlainImage,
+    image: &ReferenceImage,
     element: &[Offset],
     k: u32,
-) -> Result<PlainImage, NoMemory>
+) -> Result<ReferenceImage, NoMemory>
     ensures { IfOk result (λ r. r ≡ rank element.now k image.now) }
 {
     nth_samples(alloc, image, &Element::upright(element), k)

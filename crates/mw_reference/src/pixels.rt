@@ -3,7 +3,7 @@
 ghost use Rattle.std.specs.Prelude.{◌≡◌, ℕ, ◌<◌, ◌≤◌, IfOk};
 ghost use Rattle.mw_model.specs.Pictures.{drawn, redrawn, IsPicture};
 
-use crate::PlainImage;
+use crate::ReferenceImage;
 use mw_model::{Kind, NoMemory};
 use std::alloc::Global;
 
@@ -21,9 +21,9 @@ pub fn draw<P: Pixels>(
     alloc: Global,
     kind: Kind,
     maxval: u16,
-    like: &PlainImage,
+    like: &ReferenceImage,
     pixels: &P,
-) -> Result<PlainImage, NoMemory>
+) -> Result<ReferenceImage, NoMemory>
     requires bounded { IsPicture like.now → (x y : ℕ) → x < like.now.width → y < like.now.height → P.value pixels.now x y ≤ maxval }
     ensures { IfOk result (λ r. r ≡ drawn kind like.now.width like.now.height maxval (P.value pixels.now)) }
 {
@@ -35,15 +35,15 @@ pub fn draw<P: Pixels>(
             samples.push(pixels.at(x, y))?;
         }
     }
-    Ok(PlainImage::new(kind, width, height, maxval, samples))
+    Ok(ReferenceImage::new(kind, width, height, maxval, samples))
 }
 
 /// The image with these samples, of the kind, size and maxval of another.
 pub fn redraw<P: Pixels>(
     alloc: Global,
-    like: &PlainImage,
+    like: &ReferenceImage,
     pixels: &P,
-) -> Result<PlainImage, NoMemory>
+) -> Result<ReferenceImage, NoMemory>
     requires bounded { IsPicture like.now → (x y : ℕ) → x < like.now.width → y < like.now.height → P.value pixels.now x y ≤ like.now.maxval }
     ensures { IfOk result (λ r. r ≡ redrawn like.now (P.value pixels.now)) }
 {

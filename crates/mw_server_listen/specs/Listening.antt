@@ -1,14 +1,14 @@
 -- What a server leaves behind (own).
-use Rattle.std.specs.Prelude.{◌≡◌, ◌⊎◌, ℕ, Bool, true, List, [], Option, Result, All, MatchBool, length, codes}
+use Rattle.std.specs.Prelude.{◌≡◌, ◌⊎◌, ℕ, Bool, List, [], Option, All, MatchBool, length, codes}
 use Rattle.std.specs.Io.KnownBytes.{Appends}
 use Rattle.mw_model.specs.declared.receipts.Receipt.{Receipt}
 use Rattle.mw_model.specs.Machine.{Machine}
 use Rattle.mw_model.specs.Receipts.{Covers}
 use Rattle.mw_model.specs.Stands.{CoreView, StandsFor}
 use Rattle.mw_pool_session.specs.Serving.{Receives}
-use Rattle.mw_pool_session.specs.mw_wire.Writes.{CutsShort}
 use Rattle.mw_server_socket.specs.Announcements.{announcement}
 use Rattle.mw_server_socket.specs.Ports.{port_line}
+pub use Rattle.mw_server_socket.specs.Tellings.{TellsLine, Told}
 use Rattle.mw_server_listen.specs.declared.fault.ListenFault.{ListenFault}
 use Rattle.mw_server_listen.specs.declared.fault.ListenFault.TheVariants as fault
 
@@ -24,16 +24,6 @@ listen_line port fault.Output = codes "error: output\n"
 -- where it is asked for, the line of this port was written, and else nothing
 abbrev pub AnnouncesIf : Bool → ℕ → Option (List ℕ) → Option (List ℕ) → Type 0
 AnnouncesIf asked port old new = MatchBool asked (Appends old new (announcement port)) (new ≡ old)
-
--- what is known of what the writer of faults holds, and whether it failed
-pub record Told : Type 0 where
-  pub text : Option (List ℕ)
-  pub failed : Bool
-
--- exactly this was told; or less of it, where the writer failed
-abbrev pub TellsLine : Told → Told → List ℕ → Type 0
-TellsLine old new line =
-    (Appends old.text new.text line × (new.failed ≡ old.failed)) ⊎ (CutsShort old.text new.text line × (new.failed ≡ true))
 
 -- What a session leaves whose connection does not tell its bytes: such bytes were read and such a text is due for them that the pass has the receipts of their requests, from the first on.
 pub record IsOfSession (pass : List Receipt) : Type 0 where

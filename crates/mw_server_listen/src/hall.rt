@@ -149,7 +149,7 @@ fn serve_within<
     })
 }
 
-/// The same, in threads that are all joined when it returns.
+/// `serve_within`, in threads that are all joined when it returns.
 pub(crate) fn serve_sessions<
     R: Threads + Wait + Sync,
     G: Gate + Sync,

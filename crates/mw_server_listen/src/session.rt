@@ -2,6 +2,7 @@
 
 ghost use Rattle.std.specs.Prelude.{◌≡◌, false};
 ghost use Rattle.mw_pool_session.specs.Serving.{ServedWhole};
+ghost use Rattle.mw_pool_session.specs.mw_wire.Failures.{IsUnread};
 ghost use Rattle.mw_server_listen.specs.Listening.{IsOfSession};
 
 use mw_model::Code;
@@ -66,9 +67,8 @@ fn serve_whole<R: Read, W: Write, X: Wait, J: Naming>(
     sink: &mut Sink<W>,
     board: &Board<J>,
 ) -> Pass
-    requires source_clear { source.old.failed ≡ false }
+    requires source_fresh { IsUnread source.old.failed source.old.reads }
     requires sink_clear { sink.old.failed ≡ false }
-    requires unread { source.old.reads ≡ 0 }
     ensures { ServedWhole result (R.remaining source.old.inner) (R.remaining source.new.inner) (W.contents sink.old.inner) (W.contents sink.new.inner) }
 {
     let mut pass = board.pass();

@@ -1,22 +1,22 @@
 -- What a connection and a service leave behind (own).
 use Rattle.std.specs.Prelude.{◌≡◌, ◌≢◌, ◌⊎◌, ℕ, Bool, true, false, List, [], Option, None, codes}
 use Rattle.std.specs.Io.KnownBytes.{Appends, Keeps, append_known}
-use Rattle.mw_batch.specs.Batches.{Ends, Served, Unserved}
+use Rattle.mw_batch.specs.Batches.{Served, SessionEnds, Unserved}
 use Rattle.mw_server_socket.specs.Announcements.{announcement}
 use Rattle.mw_server_socket.specs.Closings.{Drops}
 use Rattle.mw_server_socket.specs.Ports.{port_line}
-use Rattle.mw_server_socket.specs.mw_wire.Writes.{CutsShort}
+pub use Rattle.mw_server_socket.specs.Tellings.{TellsLine, Told}
 use Rattle.mw_server_serve.specs.declared.fault.ServeFault.{ServeFault}
 use Rattle.mw_server_serve.specs.declared.fault.ServeFault.TheVariants as fault
 
 -- The connection was served as a batch is, from the start of the machine: its reader and writer are left as a batch leaves them. What is told of a fault, nobody hears.
-abbrev pub ServedAlone : Ends → Ends → ℕ → Type 0
+abbrev pub ServedAlone : SessionEnds → SessionEnds → ℕ → Type 0
 ServedAlone old new status =
     (unheard : Bool)
     × (Served old (record new { tell_failed = unheard }) status ⊎ Unserved old (record new { tell_failed = unheard }) status)
 
 -- the ends of a session before it begins: what is known of what the reader has left, and of what the writer holds
-abbrev pub untouched : Option (List ℕ) → Option (List ℕ) → Ends
+abbrev pub untouched : Option (List ℕ) → Option (List ℕ) → SessionEnds
 untouched left written =
     record { left = left; reads = 0; read_failed = false; written = written; write_failed = false; told = None; tell_failed = false }
 
@@ -27,7 +27,7 @@ IsTaken written after has_taken =
 
 -- One session was served between a reader and a writer, and nothing beside it was read or written; of what it wrote the writer holds all, or a front.
 pub record Conversed (left rest before after : Option (List ℕ)) (has_taken : Bool) : Type 0 where
-  pub ends : Ends
+  pub ends : SessionEnds
   pub status : ℕ
   pub alone : ServedAlone (untouched left before) ends status
   pub read : ends.left ≡ rest
@@ -45,16 +45,6 @@ serve_line port (fault.Port f) = port_line port f
 serve_line port fault.Socket = codes "error: socket\n"
 serve_line port fault.Output = codes "error: output\n"
 serve_line port fault.Thread = codes "error: thread\n"
-
--- what is known of what the writer of faults holds, and whether it failed
-pub record Told : Type 0 where
-  pub text : Option (List ℕ)
-  pub failed : Bool
-
--- exactly this was told; or less of it, where the writer failed
-abbrev pub TellsLine : Told → Told → List ℕ → Type 0
-TellsLine old new line =
-    (Appends old.text new.text line × (new.failed ≡ old.failed)) ⊎ (CutsShort old.text new.text line × (new.failed ≡ true))
 
 -- the port that a service listens on is the one that was asked for; 0 asks for any
 abbrev pub IsPortFor : ℕ → ℕ → Type 0

@@ -2,10 +2,12 @@
 
 ghost use Rattle.std.specs.Prelude.{◌≡◌, ◌≤◌, None, IfSome, IfNone, true, false};
 ghost use Rattle.std.specs.Io.Buffered.{writer_contents};
+ghost use Rattle.mw_model.specs.declared.limits.TheConstants.{READ_LIMIT};
 ghost use Rattle.mw_grid.specs.Grids.{IsTileSide};
-ghost use Rattle.mw_batch.specs.Batches.{Ends};
+ghost use Rattle.mw_batch.specs.Batches.{SessionEnds};
 ghost use Rattle.mw_server_serve.specs.Services.{ServedAlone, IsTaken, Conversed, Connected};
 ghost use Rattle.mw_server_socket.specs.Closings.{IsDone};
+ghost use Rattle.mw_server_socket.specs.mw_wire.Failures.{IsUnread};
 
 use mw_batch::{Crew, batch};
 use mw_server_socket::wire::{Sink, Source};
@@ -28,11 +30,10 @@ pub fn serve_one<R: Read, W: Write, T: Threads + Sync>(
     side: u32,
 ) -> u8
     requires side { IsTileSide side }
-    requires source_clear { source.old.failed ≡ false }
+    requires source_fresh { IsUnread source.old.failed source.old.reads }
     requires sink_clear { sink.old.failed ≡ false }
-    requires unread { source.old.reads ≡ 0 }
-    ensures { let old : Ends = record { left = R.remaining source.old.inner; reads = source.old.reads; read_failed = source.old.failed; written = W.contents sink.old.inner; write_failed = sink.old.failed; told = None; tell_failed = false } in
-        let new : Ends = record { left = R.remaining source.new.inner; reads = source.new.reads; read_failed = source.new.failed; written = W.contents sink.new.inner; write_failed = sink.new.failed; told = None; tell_failed = false } in
+    ensures { let old : SessionEnds = record { left = R.remaining source.old.inner; reads = source.old.reads; read_failed = source.old.failed; written = W.contents sink.old.inner; write_failed = sink.old.failed; told = None; tell_failed = false } in
+        let new : SessionEnds = record { left = R.remaining source.new.inner; reads = source.new.reads; read_failed = source.new.failed; written = W.contents sink.new.inner; write_failed = sink.new.failed; told = None; tell_failed = false } in
         ServedAlone old new result }
 {
     let mut faults = Sink::new(io::sink());
@@ -59,10 +60,9 @@ fn converse<R: Read, W: Write + Drop, T: Threads + Sync>(
     side: u32,
 ) -> (W, bool)
     requires side { IsTileSide side }
-    requires source_clear { source.old.failed ≡ false }
-    requires unread { source.old.reads ≡ 0 }
+    requires source_fresh { IsUnread source.old.failed source.old.reads }
     ensures served { Conversed (R.remaining source.old.inner) (R.remaining source.new.inner) (writer_contents W.contents writer) (W.contents result.0) result.1 }
-    ensures few { source.new.reads ≤ 4294967295 }
+    ensures few { source.new.reads ≤ READ_LIMIT }
 {
     let mut sink = Sink::new(writer);
     let _status = serve_one(crew, source, &mut sink, side);
@@ -81,8 +81,7 @@ pub fn serve_connection<S: OpenStream, R: Read, W: Write + Drop, T: Threads + Sy
     side: u32,
 ) -> Option<(W, bool)>
     requires side { IsTileSide side }
-    requires source_clear { source.old.failed ≡ false }
-    requires unread { source.old.reads ≡ 0 }
+    requires source_fresh { IsUnread source.old.failed source.old.reads }
     ensures served { IfSome result (λ r. Connected (R.remaining source.old.inner) (R.remaining source.new.inner) (W.contents writer) (W.contents r.0) r.1) }
     ensures done { IfSome result (λ r. r.1 ≡ true → IsDone (R.remaining source.new.inner) source.new.failed 16384 source.new.reads) }
     ensures none { IfNone result (source.new ≡ source.old) }

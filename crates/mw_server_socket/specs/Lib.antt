@@ -1,5 +1,6 @@
 pub mod Announcements
 pub mod Closings
 pub mod Ports
+pub mod Tellings
 -- what lower crates offer
 pub mod mw_wire

@@ -1,7 +1,8 @@
 //! The line that tells where connections can be made.
 
-ghost use Rattle.std.specs.Prelude.{◌≡◌, OnOk, OnErr, Err, true};
+ghost use Rattle.std.specs.Prelude.{OnOk};
 ghost use Rattle.std.specs.Io.KnownBytes.{Appends};
+ghost use Rattle.mw_wire.specs.Failures.{RemembersFailure};
 ghost use Rattle.mw_server_socket.specs.Announcements.{announcement};
 
 use mw_wire::{ReplyLine, SessionFault, Sink, pass_on, send};
@@ -10,8 +11,7 @@ use std::io::Write;
 /// Writes `LISTENING 127.0.0.1` and the port, and has the writer pass it on.
 pub fn announce<W: Write>(output: &mut Sink<W>, port: u16) -> Result<(), SessionFault>
     ensures told { OnOk result (Appends (W.contents output.old.inner) (W.contents output.new.inner) (announcement port)) }
-    ensures kept { OnOk result (output.new.failed ≡ output.old.failed) }
-    ensures flag { OnErr result ((result ≡ Err SessionFault.Write) × (output.new.failed ≡ true)) }
+    ensures remembers { RemembersFailure output.old.failed output.new.failed result }
 {
     let mut line = ReplyLine::new();
     line.push(b"LISTENING 127.0.0.1");

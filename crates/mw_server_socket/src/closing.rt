@@ -1,6 +1,7 @@
 //! The end of a connection.
 
 ghost use Rattle.std.specs.Prelude.{◌≤◌, ◌+◌};
+ghost use Rattle.mw_model.specs.declared.limits.TheConstants.{READ_LIMIT};
 ghost use Rattle.mw_server_socket.specs.Closings.{Drops, IsDone};
 
 use mw_wire::Source;
@@ -19,7 +20,7 @@ const LAST_WAIT: u64 = 1;
 
 /// Reads what is left and drops it, up to its end, to a fault, or so many times. A read that was interrupted is made again.
 fn drop_rest<R: Read>(source: &mut Source<R>)
-    requires few { source.old.reads ≤ 4294967295 }
+    requires few { source.old.reads ≤ READ_LIMIT }
     ensures dropped { Drops (R.remaining source.old.inner) (R.remaining source.new.inner) }
     ensures done { IsDone (R.remaining source.new.inner) source.new.failed (source.old.reads + 16384) source.new.reads }
 {
@@ -39,7 +40,7 @@ fn drop_rest<R: Read>(source: &mut Source<R>)
 /// dropped, until it ends, until it is silent for a second, or 16,384 times. The system breaks a connection off that is
 /// closed with bytes unread, and the last replies could be lost with it.
 pub fn finish<S: OpenStream, R: Read>(socket: &S, source: &mut Source<R>)
-    requires few { source.old.reads ≤ 4294967295 }
+    requires few { source.old.reads ≤ READ_LIMIT }
     ensures dropped { Drops (R.remaining source.old.inner) (R.remaining source.new.inner) }
     ensures done { IsDone (R.remaining source.new.inner) source.new.failed (source.old.reads + 16384) source.new.reads }
 {

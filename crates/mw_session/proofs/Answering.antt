@@ -33,6 +33,7 @@ use Rattle.mw_core_waves.specs.mw_session_laws.Marks.{killed_in}
 use Rattle.mw_session.specs.Turns.{TellsWork, TellsCall, logged, unlogged, MayLack}
 use Rattle.mw_core_waves.proofs.mw_model_laws.RunStates.{reached}
 use Rattle.mw_core_waves.proofs.mw_model_laws.RunReplay.{refused_leaves, fetch_leaves}
+use Rattle.mw_core_waves.specs.mw_session_laws.Payloads.{ReadsImage, ReadsElement}
 use Rattle.mw_core_waves.specs.mw_core_laws.Payloads.{given_image, image_payload, given_element, element_payload}
 use Rattle.mw_core_waves.specs.mw_core_laws.Events.{FollowsMachine, IsFresh, handed_out}
 use Rattle.mw_core_waves.proofs.mw_core_laws.ShownLemmas.{IsPlain, answer-not_shown, refused_or-not_shown}
@@ -42,7 +43,7 @@ use Rattle.mw_session_fetch.specs.mw_wire.Writes.{told_text}
 use Rattle.mw_core_waves.specs.Work.{AllWorked}
 use Rattle.mw_session_fetch.specs.Texts.{fetch_text, SaysFetched}
 use Rattle.mw_core_waves.specs.mw_core_laws.Rows.{IsLogFull}
-use Rattle.mw_session.specs.Answering.{ReadsImage, ReadsElement, MayWant, Answered}
+use Rattle.mw_session.specs.Answering.{MayWant, Answered}
 use Rattle.mw_core_waves.proofs.TicketCounts.{under, none-under, count-under, running_count-stays_none}
 
 -- ---- texts

@@ -1,6 +1,6 @@
 -- Answers of a core, one after another, are the turns of a script.
 use Rattle.std.proofs.Common.{◌≡◌, ◌≤◌, ◌+◌, ◌||◌, ℕ, suc, Bool, true, false, List, [], ◌∷◌, ◌++◌, length, min, refl, sym, ap, ◌∙◌, subst, Option, Result, Ok, Err, inl, inr, arith}
-use Rattle.std.specs.List.{concat, list_any}
+use Rattle.std.specs.List.{concat}
 use Rattle.std.proofs.lemmas.List.{append-nil}
 use Rattle.mw_model.specs.declared.calls.LogItem.{LogItem}
 use Rattle.mw_model.specs.declared.requests.End.{End}

@@ -1,11 +1,5 @@
--- What reading payloads and answering a request say.
-use Rattle.std.specs.Prelude.{◌≡◌, ◌⊎◌, ◌++◌, ℕ, true, List, None, Result, Ok, Err}
-use Rattle.mw_model.specs.declared.codes.Code.{Code}
-use Rattle.mw_model.specs.declared.codes.Code.TheVariants as code
-use Rattle.mw_model.specs.Pictures.{Picture, IsImage}
-use Rattle.mw_model.specs.Elements.{Figure, IsElement, ElementRefuses}
-use Rattle.mw_model.specs.NetpbmGrammar.{IsFile}
-use Rattle.mw_model.specs.NetpbmRefusals.{Refuses}
+-- What answering a request says.
+use Rattle.std.specs.Prelude.{◌≡◌, ◌⊎◌, ◌++◌, ℕ, Bool, true, List, Option, None, Result}
 use Rattle.mw_model.specs.Machine.{Machine}
 use Rattle.mw_model.specs.declared.calls.LogItem.{LogItem}
 use Rattle.mw_model.specs.declared.requests.Ask.TheVariants as ask
@@ -13,17 +7,9 @@ use Rattle.mw_model.specs.Lines.{Asked, AskLoad, AskElement, AskAlone}
 use Rattle.mw_model.specs.Scripts.{Turn, refused_unread}
 use Rattle.mw_model.specs.Stands.{CoreView, StandsFor, running_count}
 use Rattle.mw_core_waves.specs.mw_core_laws.Rows.{IsLogFull}
+use Rattle.mw_session_fetch.specs.Errors.{Marks}
+use Rattle.mw_session_fetch.specs.mw_wire.Writes.{Wrote}
 use Rattle.mw_session.specs.Turns.{TurnMade}
-
--- the payload of a LOAD as an image, or why it is none, or want of memory
-abbrev pub ReadsImage : List ℕ → Result Picture Code → Type 0
-ReadsImage bytes (Ok f) = IsFile bytes f × IsImage f
-ReadsImage bytes (Err c) = (c ≡ code.Memory) ⊎ Refuses bytes c
-
--- the payload of an ELEMENT as an element with this origin, or why it is none, or want of memory
-abbrev pub ReadsElement : List ℕ → ℕ → ℕ → Result Figure Code → Type 0
-ReadsElement bytes ox oy (Ok b) = IsElement bytes ox oy b
-ReadsElement bytes ox oy (Err c) = (c ≡ code.Memory) ⊎ ElementRefuses bytes ox oy c
 
 -- Want of memory may have refused the request where it left the core so. A submission asks for more than its place in the log only where no refusal stands before its payload's, RUN and FETCH ask for more, and all others for that place alone.
 abbrev pub MayWant : CoreView → Asked → Type 0
@@ -48,3 +34,7 @@ pub record Answered (m : Machine) (old : CoreView) (r : Asked) (text : List ℕ)
 -- so it was from each state that the core stands for, where no task was running
 abbrev pub ScriptAnswer : CoreView → Asked → List ℕ → CoreView → Type 0
 ScriptAnswer old r text new = (m : Machine) → StandsFor old m → running_count old ≡ 0 → Answered m old r text new
+
+-- So a request was answered by some text, the mark was set where that is the line of a refusal, and the text was written, or less of it.
+abbrev pub WritesAnswer : {E : Type 0} → CoreView → Asked → CoreView → Bool → Bool → Option (List ℕ) → Option (List ℕ) → Result (Unit {0}) E → Type 0
+WritesAnswer old r new was is before after result = (text : List ℕ) × ScriptAnswer old r text new × Marks was text is × Wrote before after text result

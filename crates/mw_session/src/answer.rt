@@ -1,16 +1,16 @@
 //! One request, and what is written for it.
 
-ghost use Rattle.std.specs.Prelude.{◌≡◌, ◌≢◌, ℕ, List, OnOk, OnErr, Err, true};
+ghost use Rattle.std.specs.Prelude.{◌≢◌, ℕ, List};
 ghost use Rattle.mw_model.specs.declared.names.Name.{Name};
 ghost use Rattle.mw_model.specs.declared.requests.Ask.TheVariants as Ask;
 ghost use Rattle.mw_model.specs.Lines.{AskLoad, AskElement, AskAlone};
-ghost use Rattle.mw_session_fetch.specs.Errors.{Marks};
+ghost use Rattle.mw_session_fetch.specs.mw_wire.Failures.{RemembersFailure};
 ghost use Rattle.mw_session_fetch.specs.mw_session_intake.Intake.{asked};
-ghost use Rattle.mw_session.specs.Answering.{ScriptAnswer};
+ghost use Rattle.mw_session.specs.Answering.{WritesAnswer};
 ghost use Rattle.mw_session_fetch.specs.mw_wire.Writes.{Wrote};
 
-use crate::payloads::{read_element, read_image};
 use crate::tally::Tally;
+use mw_core_waves::payloads::{read_element, read_image};
 use mw_core_waves::{Core, Crew, Pick, run_all_work};
 use mw_model::{Name, NoMemory, Op, Request};
 use mw_session_fetch::wire::{Handler, SessionFault, Sink};
@@ -27,9 +27,8 @@ fn load<W: Write>(
     name: Name,
     payload: Vec<u8>,
 ) -> Result<(), SessionFault>
-    ensures answered { (text : List ℕ) × ScriptAnswer core.old (AskLoad name payload.items) text core.new × Marks refused.old text refused.new × Wrote (W.contents sink.old.inner) (W.contents sink.new.inner) text result }
-    ensures kept { OnOk result (sink.new.failed ≡ sink.old.failed) }
-    ensures flag { OnErr result ((result ≡ Err SessionFault.Write) × (sink.new.failed ≡ true)) }
+    ensures answered { WritesAnswer core.old (AskLoad name payload.items) core.new refused.old refused.new (W.contents sink.old.inner) (W.contents sink.new.inner) result }
+    ensures remembers { RemembersFailure sink.old.failed sink.new.failed result }
 {
     let image = read_image(alloc, payload);
     let reply = core.load(name, image);
@@ -45,9 +44,8 @@ fn element<W: Write>(
     at: (Name, u32, u32),
     payload: &[u8],
 ) -> Result<(), SessionFault>
-    ensures answered { (text : List ℕ) × ScriptAnswer core.old (AskElement at.0 at.1 at.2 payload.now) text core.new × Marks refused.old text refused.new × Wrote (W.contents sink.old.inner) (W.contents sink.new.inner) text result }
-    ensures kept { OnOk result (sink.new.failed ≡ sink.old.failed) }
-    ensures flag { OnErr result ((result ≡ Err SessionFault.Write) × (sink.new.failed ≡ true)) }
+    ensures answered { WritesAnswer core.old (AskElement at.0 at.1 at.2 payload.now) core.new refused.old refused.new (W.contents sink.old.inner) (W.contents sink.new.inner) result }
+    ensures remembers { RemembersFailure sink.old.failed sink.new.failed result }
 {
     let (name, ox, oy) = at;
     let element = read_element(alloc, payload, ox, oy);
@@ -62,9 +60,8 @@ fn run<W: Write>(
     name: Name,
     op: Op,
 ) -> Result<(), SessionFault>
-    ensures answered { (text : List ℕ) × ScriptAnswer core.old (AskAlone (Ask.Run name op)) text core.new × Marks refused.old text refused.new × Wrote (W.contents sink.old.inner) (W.contents sink.new.inner) text result }
-    ensures kept { OnOk result (sink.new.failed ≡ sink.old.failed) }
-    ensures flag { OnErr result ((result ≡ Err SessionFault.Write) × (sink.new.failed ≡ true)) }
+    ensures answered { WritesAnswer core.old (AskAlone (Ask.Run name op)) core.new refused.old refused.new (W.contents sink.old.inner) (W.contents sink.new.inner) result }
+    ensures remembers { RemembersFailure sink.old.failed sink.new.failed result }
 {
     let reply = core.run(name, op);
     note_told(sink, refused, reply)
@@ -76,9 +73,8 @@ fn cancel<W: Write>(
     refused: &mut bool,
     name: Name,
 ) -> Result<(), SessionFault>
-    ensures answered { (text : List ℕ) × ScriptAnswer core.old (AskAlone (Ask.Cancel name)) text core.new × Marks refused.old text refused.new × Wrote (W.contents sink.old.inner) (W.contents sink.new.inner) text result }
-    ensures kept { OnOk result (sink.new.failed ≡ sink.old.failed) }
-    ensures flag { OnErr result ((result ≡ Err SessionFault.Write) × (sink.new.failed ≡ true)) }
+    ensures answered { WritesAnswer core.old (AskAlone (Ask.Cancel name)) core.new refused.old refused.new (W.contents sink.old.inner) (W.contents sink.new.inner) result }
+    ensures remembers { RemembersFailure sink.old.failed sink.new.failed result }
 {
     let reply = core.cancel(name);
     note_told(sink, refused, reply)
@@ -90,9 +86,8 @@ fn release<W: Write>(
     refused: &mut bool,
     name: Name,
 ) -> Result<(), SessionFault>
-    ensures answered { (text : List ℕ) × ScriptAnswer core.old (AskAlone (Ask.Release name)) text core.new × Marks refused.old text refused.new × Wrote (W.contents sink.old.inner) (W.contents sink.new.inner) text result }
-    ensures kept { OnOk result (sink.new.failed ≡ sink.old.failed) }
-    ensures flag { OnErr result ((result ≡ Err SessionFault.Write) × (sink.new.failed ≡ true)) }
+    ensures answered { WritesAnswer core.old (AskAlone (Ask.Release name)) core.new refused.old refused.new (W.contents sink.old.inner) (W.contents sink.new.inner) result }
+    ensures remembers { RemembersFailure sink.old.failed sink.new.failed result }
 {
     let reply = core.release(name);
     note_told(sink, refused, reply)
@@ -107,10 +102,9 @@ fn status<W: Write, P: Pick, T: Threads + Sync>(
     pick: &mut P,
     name: Name,
 ) -> Result<(), SessionFault>
-    ensures status { (text : List ℕ) × ScriptAnswer core.old (AskAlone (Ask.Status name)) text core.new × Marks refused.old text refused.new × Wrote (W.contents sink.old.inner) (W.contents sink.new.inner) text result }
-    ensures wait { (text : List ℕ) × ScriptAnswer core.old (AskAlone (Ask.Wait name)) text core.new × Marks refused.old text refused.new × Wrote (W.contents sink.old.inner) (W.contents sink.new.inner) text result }
-    ensures kept { OnOk result (sink.new.failed ≡ sink.old.failed) }
-    ensures flag { OnErr result ((result ≡ Err SessionFault.Write) × (sink.new.failed ≡ true)) }
+    ensures status { WritesAnswer core.old (AskAlone (Ask.Status name)) core.new refused.old refused.new (W.contents sink.old.inner) (W.contents sink.new.inner) result }
+    ensures wait { WritesAnswer core.old (AskAlone (Ask.Wait name)) core.new refused.old refused.new (W.contents sink.old.inner) (W.contents sink.new.inner) result }
+    ensures remembers { RemembersFailure sink.old.failed sink.new.failed result }
 {
     run_all_work(crew, core, pick);
     let reply = core.status(name);
@@ -125,9 +119,8 @@ fn fetch<W: Write, P: Pick, T: Threads + Sync>(
     pick: &mut P,
     name: Name,
 ) -> Result<(), SessionFault>
-    ensures answered { (text : List ℕ) × ScriptAnswer core.old (AskAlone (Ask.Fetch name)) text core.new × Marks refused.old text refused.new × Wrote (W.contents sink.old.inner) (W.contents sink.new.inner) text result }
-    ensures kept { OnOk result (sink.new.failed ≡ sink.old.failed) }
-    ensures flag { OnErr result ((result ≡ Err SessionFault.Write) × (sink.new.failed ≡ true)) }
+    ensures answered { WritesAnswer core.old (AskAlone (Ask.Fetch name)) core.new refused.old refused.new (W.contents sink.old.inner) (W.contents sink.new.inner) result }
+    ensures remembers { RemembersFailure sink.old.failed sink.new.failed result }
 {
     run_all_work(crew, core, pick);
     match core.fetch(name) {
@@ -146,9 +139,8 @@ fn answer_one<W: Write, P: Pick, T: Threads + Sync>(
     request: Request,
 ) -> Result<(), SessionFault>
     requires open_still { asked request ≢ AskAlone Ask.Quit }
-    ensures answered { (text : List ℕ) × ScriptAnswer core.old (asked request) text core.new × Marks refused.old text refused.new × Wrote (W.contents sink.old.inner) (W.contents sink.new.inner) text result }
-    ensures kept { OnOk result (sink.new.failed ≡ sink.old.failed) }
-    ensures flag { OnErr result ((result ≡ Err SessionFault.Write) × (sink.new.failed ≡ true)) }
+    ensures answered { WritesAnswer core.old (asked request) core.new refused.old refused.new (W.contents sink.old.inner) (W.contents sink.new.inner) result }
+    ensures remembers { RemembersFailure sink.old.failed sink.new.failed result }
 {
     match request {
         Request::Load(name, payload) => load(crew.alloc, sink, core, refused, name, payload),

@@ -9,7 +9,6 @@
 
 mod answer;
 mod laws;
-mod payloads;
 mod script;
 mod tally;
 

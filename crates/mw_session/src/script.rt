@@ -1,8 +1,9 @@
 //! A whole script, from a reader to a writer.
 
-ghost use Rattle.std.specs.Prelude.{◌≡◌, ◌≤◌, ◌⊎◌, Err, false, true};
+ghost use Rattle.std.specs.Prelude.{◌≡◌, false};
 ghost use Rattle.mw_model.specs.Machine.{Machine};
 ghost use Rattle.mw_model.specs.Stands.{StandsFor, running_count};
+ghost use Rattle.mw_session_fetch.specs.mw_wire.Failures.{IsUnread, TellsFailures};
 ghost use Rattle.mw_session.specs.Runs.{SessionRan};
 ghost use Rattle.mw_session.specs.Tallies.{IsCounted};
 
@@ -18,7 +19,7 @@ use std::thread::Threads;
 /// WAIT all work is run by the crew, in the order of the picks, and nothing else runs work. Want of memory is `ERR 50 MEMORY` for
 /// that request, and ends the session where a line or a payload is gathered.
 ///
-/// A session makes at most 4,294,967,295 reads, and makes one again that was interrupted.
+/// A session makes at most `READ_LIMIT` reads, and makes one again that was interrupted.
 pub fn run_script<R: Read, W: Write, P: Pick, T: Threads + Sync>(
     crew: Crew<T>,
     source: &mut Source<R>,
@@ -26,18 +27,13 @@ pub fn run_script<R: Read, W: Write, P: Pick, T: Threads + Sync>(
     core: &mut Core,
     pick: &mut P,
 ) -> Result<End, SessionFault>
-    requires source_clear { source.old.failed ≡ false }
+    requires source_fresh { IsUnread source.old.failed source.old.reads }
     requires sink_clear { sink.old.failed ≡ false }
-    requires unread { source.old.reads ≡ 0 }
     requires idle { running_count core.old ≡ 0 }
     // What was written is the script of the bytes that were read, or what a fault left of it, and the core stands for the state after it.
     ensures ran { (m : Machine) → StandsFor core.old m
         → SessionRan m core.old core.new (R.remaining source.old.inner) (R.remaining source.new.inner) (W.contents sink.old.inner) (W.contents sink.new.inner) result }
-    ensures few_reads { source.new.reads ≤ 4294967295 }
-    ensures read_fault { result ≡ Err SessionFault.Read → (source.new.failed ≡ true) ⊎ (source.new.reads ≡ 4294967295) }
-    ensures write_fault { result ≡ Err SessionFault.Write → sink.new.failed ≡ true }
-    ensures reader_failed { source.new.failed ≡ true → result ≡ Err SessionFault.Read }
-    ensures writer_failed { sink.new.failed ≡ true → result ≡ Err SessionFault.Write }
+    ensures failures { TellsFailures source.new.failed source.new.reads sink.new.failed result }
 {
     let mut clerk = ScriptHandler { crew, pick };
     run_session(crew.alloc, source, sink, &mut clerk, core)
@@ -52,20 +48,15 @@ pub fn run_counted<R: Read, W: Write, P: Pick, T: Threads + Sync>(
     tally: &mut Tally,
     pick: &mut P,
 ) -> Result<End, SessionFault>
-    requires source_clear { source.old.failed ≡ false }
+    requires source_fresh { IsUnread source.old.failed source.old.reads }
     requires sink_clear { sink.old.failed ≡ false }
-    requires unread { source.old.reads ≡ 0 }
     requires idle { running_count tally.old.core ≡ 0 }
     requires first { tally.old.line ≡ 1 }
     requires clear { tally.old.refused ≡ false }
     // What was written is the script of the bytes that were read, or what a fault left of it, and the core stands for the state after it. Behind an end the tally counts what was answered.
     ensures ran { (m : Machine) → StandsFor tally.old.core m
         → (s : SessionRan m tally.old.core tally.new.core (R.remaining source.old.inner) (R.remaining source.new.inner) (W.contents sink.old.inner) (W.contents sink.new.inner) result) × IsCounted result s tally.new }
-    ensures few_reads { source.new.reads ≤ 4294967295 }
-    ensures read_fault { result ≡ Err SessionFault.Read → (source.new.failed ≡ true) ⊎ (source.new.reads ≡ 4294967295) }
-    ensures write_fault { result ≡ Err SessionFault.Write → sink.new.failed ≡ true }
-    ensures reader_failed { source.new.failed ≡ true → result ≡ Err SessionFault.Read }
-    ensures writer_failed { sink.new.failed ≡ true → result ≡ Err SessionFault.Write }
+    ensures failures { TellsFailures source.new.failed source.new.reads sink.new.failed result }
 {
     let mut teller = Teller { crew, pick };
     run_session(crew.alloc, source, sink, &mut teller, tally)

@@ -1,5 +1,6 @@
 -- What `mw_wire` offers, for the crates above.
 pub use Rattle.mw_wire.specs.Chains
+pub use Rattle.mw_wire.specs.Failures
 pub use Rattle.mw_wire.specs.Faults
 pub use Rattle.mw_wire.specs.Rooms
 pub use Rattle.mw_wire.specs.Runs

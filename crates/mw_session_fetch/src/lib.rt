@@ -7,9 +7,9 @@
 //! ```
 #![tactic(auto)]
 
-ghost use Rattle.std.specs.Prelude.{◌≡◌, ℕ, List, OnOk, OnErr, Err, true};
-ghost use Rattle.mw_session_fetch.specs.Errors.{Marks};
-ghost use Rattle.mw_session_fetch.specs.Texts.{SaysFetched};
+ghost use Rattle.std.specs.Prelude.{ℕ, List};
+ghost use Rattle.mw_wire.specs.Failures.{RemembersFailure};
+ghost use Rattle.mw_session_fetch.specs.Texts.{SaysFetched, WritesMarked};
 ghost use Rattle.mw_wire.specs.Writes.{Wrote};
 
 mod marks;
@@ -33,9 +33,8 @@ fn say_picture<W: Write>(
     t: u32,
     image: &Image,
 ) -> Result<(), SessionFault>
-    ensures said { (text : List ℕ) × SaysFetched (Reply.Shown t) (FetchedValue.Image image.now) text × Marks marked.old text marked.new × Wrote (W.contents sink.old.inner) (W.contents sink.new.inner) text result }
-    ensures kept { OnOk result (sink.new.failed ≡ sink.old.failed) }
-    ensures flag { OnErr result ((result ≡ Err SessionFault.Write) × (sink.new.failed ≡ true)) }
+    ensures said { WritesMarked (SaysFetched (Reply.Shown t) (FetchedValue.Image image.now)) marked.old marked.new (W.contents sink.old.inner) (W.contents sink.new.inner) result }
+    ensures remembers { RemembersFailure sink.old.failed sink.new.failed result }
 {
     match mw_netpbm::parts(alloc, image) {
         Ok(text) => say_image(sink, t, &text.front, text.rest),
@@ -51,9 +50,8 @@ fn say_plate<W: Write>(
     t: u32,
     plate: &Plate,
 ) -> Result<(), SessionFault>
-    ensures said { (text : List ℕ) × SaysFetched (Reply.Shown t) (FetchedValue.Image plate.now) text × Marks marked.old text marked.new × Wrote (W.contents sink.old.inner) (W.contents sink.new.inner) text result }
-    ensures kept { OnOk result (sink.new.failed ≡ sink.old.failed) }
-    ensures flag { OnErr result ((result ≡ Err SessionFault.Write) × (sink.new.failed ≡ true)) }
+    ensures said { WritesMarked (SaysFetched (Reply.Shown t) (FetchedValue.Image plate.now)) marked.old marked.new (W.contents sink.old.inner) (W.contents sink.new.inner) result }
+    ensures remembers { RemembersFailure sink.old.failed sink.new.failed result }
 {
     match plate.view() {
         PlateView::Image(image) => say_picture(alloc, sink, marked, t, image),
@@ -69,9 +67,8 @@ fn say_volumes<W: Write>(
     t: u32,
     curve: &Curve,
 ) -> Result<(), SessionFault>
-    ensures said { (text : List ℕ) × SaysFetched (Reply.Shown t) (FetchedValue.Curve curve.now) text × Marks marked.old text marked.new × Wrote (W.contents sink.old.inner) (W.contents sink.new.inner) text result }
-    ensures kept { OnOk result (sink.new.failed ≡ sink.old.failed) }
-    ensures flag { OnErr result ((result ≡ Err SessionFault.Write) × (sink.new.failed ≡ true)) }
+    ensures said { WritesMarked (SaysFetched (Reply.Shown t) (FetchedValue.Curve curve.now)) marked.old marked.new (W.contents sink.old.inner) (W.contents sink.new.inner) result }
+    ensures remembers { RemembersFailure sink.old.failed sink.new.failed result }
 {
     match curve.text(alloc) {
         Ok(text) => say_curve(sink, t, &text),
@@ -86,9 +83,8 @@ pub fn note_fetched<W: Write>(
     marked: &mut bool,
     fetched: Fetched,
 ) -> Result<(), SessionFault>
-    ensures said { (text : List ℕ) × SaysFetched fetched.reply fetched.value text × Marks marked.old text marked.new × Wrote (W.contents sink.old.inner) (W.contents sink.new.inner) text result }
-    ensures kept { OnOk result (sink.new.failed ≡ sink.old.failed) }
-    ensures flag { OnErr result ((result ≡ Err SessionFault.Write) × (sink.new.failed ≡ true)) }
+    ensures said { WritesMarked (SaysFetched fetched.reply fetched.value) marked.old marked.new (W.contents sink.old.inner) (W.contents sink.new.inner) result }
+    ensures remembers { RemembersFailure sink.old.failed sink.new.failed result }
 {
     let Fetched { reply, value } = fetched;
     match (reply, value) {
@@ -107,8 +103,7 @@ pub fn say_fetched<W: Write>(
     fetched: Fetched,
 ) -> Result<(), SessionFault>
     ensures said { (text : List ℕ) × SaysFetched fetched.reply fetched.value text × Wrote (W.contents sink.old.inner) (W.contents sink.new.inner) text result }
-    ensures kept { OnOk result (sink.new.failed ≡ sink.old.failed) }
-    ensures flag { OnErr result ((result ≡ Err SessionFault.Write) × (sink.new.failed ≡ true)) }
+    ensures remembers { RemembersFailure sink.old.failed sink.new.failed result }
 {
     let mut marked = false;
     note_fetched(alloc, sink, &mut marked, fetched)

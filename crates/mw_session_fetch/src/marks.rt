@@ -1,7 +1,8 @@
 //! A mark that is set where a refusal is written.
 
-ghost use Rattle.std.specs.Prelude.{◌≡◌, OnOk, OnErr, Err, true};
+ghost use Rattle.std.specs.Prelude.{◌≡◌};
 ghost use Rattle.mw_session_fetch.specs.Errors.{Marks, is_error};
+ghost use Rattle.mw_wire.specs.Failures.{RemembersFailure};
 ghost use Rattle.mw_wire.specs.Writes.{Wrote, told_text};
 
 use mw_model::{NoMemory, Reply};
@@ -38,8 +39,7 @@ pub fn note_told<W: Write>(
 ) -> Result<(), SessionFault>
     ensures wrote { Wrote (W.contents sink.old.inner) (W.contents sink.new.inner) (told_text told) result }
     ensures marks { Marks marked.old (told_text told) marked.new }
-    ensures kept { OnOk result (sink.new.failed ≡ sink.old.failed) }
-    ensures flag { OnErr result ((result ≡ Err SessionFault.Write) × (sink.new.failed ≡ true)) }
+    ensures remembers { RemembersFailure sink.old.failed sink.new.failed result }
 {
     mark(marked, told);
     say_told(sink, told)

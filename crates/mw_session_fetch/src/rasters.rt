@@ -1,11 +1,11 @@
 //! Writing an image in tiles: row by row, so that no plane is put together. All memory is asked for before the first byte.
 
-ghost use Rattle.std.specs.Prelude.{◌≡◌, ◌≤◌, ◌++◌, ℕ, List, length, OnOk, OnErr, Err, true, vec_capacity};
+ghost use Rattle.std.specs.Prelude.{◌≡◌, ◌≤◌, ◌++◌, List, length, vec_capacity};
 ghost use Rattle.mw_model.specs.Rasters.{Raster};
 ghost use Rattle.mw_netpbm.specs.Rows.{rows_bytes};
 ghost use Rattle.mw_store.specs.mw_tile_planes.Rows.{AreCutFrom};
-ghost use Rattle.mw_session_fetch.specs.Errors.{Marks};
-ghost use Rattle.mw_session_fetch.specs.Texts.{SaysBytes, SaysFetched};
+ghost use Rattle.mw_wire.specs.Failures.{RemembersFailure};
+ghost use Rattle.mw_session_fetch.specs.Texts.{SaysBytes, SaysFetched, WritesMarked};
 ghost use Rattle.mw_wire.specs.Writes.{Wrote};
 
 use crate::marks::note_told;
@@ -29,8 +29,7 @@ fn send_rows<W: Write, P: RowBytes>(
     requires height { row.old.height ≡ 1 }
     requires text { (cells : List P) → length cells ≡ tiles.now.tiling.width → length (P.bytes tiles.now.tiling.width cells) ≤ vec_capacity text.old }
     ensures wrote { (f : Raster P) → AreCutFrom f tiles.now → Wrote (W.contents sink.old.inner) (W.contents sink.new.inner) (rows_bytes P.bytes f.width f.height f.cells) result }
-    ensures kept { OnOk result (sink.new.failed ≡ sink.old.failed) }
-    ensures flag { OnErr result ((result ≡ Err SessionFault.Write) × (sink.new.failed ≡ true)) }
+    ensures remembers { RemembersFailure sink.old.failed sink.new.failed result }
 {
     for y in 0..tiles.height() {
         tiles.read(y, row);
@@ -53,8 +52,7 @@ fn send_image<W: Write, P: RowBytes>(
     requires height { row.old.height ≡ 1 }
     requires text { (cells : List P) → length cells ≡ tiles.now.tiling.width → length (P.bytes tiles.now.tiling.width cells) ≤ vec_capacity text.old }
     ensures wrote { (f : Raster P) → AreCutFrom f tiles.now → Wrote (W.contents sink.old.inner) (W.contents sink.new.inner) (line.now ++ (head.now ++ rows_bytes P.bytes f.width f.height f.cells)) result }
-    ensures kept { OnOk result (sink.new.failed ≡ sink.old.failed) }
-    ensures flag { OnErr result ((result ≡ Err SessionFault.Write) × (sink.new.failed ≡ true)) }
+    ensures remembers { RemembersFailure sink.old.failed sink.new.failed result }
 {
     send_both(sink, line.as_bytes(), head)?;
     send_rows(sink, tiles, row, text)
@@ -69,9 +67,8 @@ fn say_rows<W: Write, P: RowBytes>(
     head: &[u8],
     tiles: &TiledRows<P>,
 ) -> Result<(), SessionFault>
-    ensures said { (f : Raster P) → AreCutFrom f tiles.now → (text : List ℕ) × SaysBytes t (head.now ++ rows_bytes P.bytes f.width f.height f.cells) text × Marks marked.old text marked.new × Wrote (W.contents sink.old.inner) (W.contents sink.new.inner) text result }
-    ensures kept { OnOk result (sink.new.failed ≡ sink.old.failed) }
-    ensures flag { OnErr result ((result ≡ Err SessionFault.Write) × (sink.new.failed ≡ true)) }
+    ensures said { (f : Raster P) → AreCutFrom f tiles.now → WritesMarked (SaysBytes t (head.now ++ rows_bytes P.bytes f.width f.height f.cells)) marked.old marked.new (W.contents sink.old.inner) (W.contents sink.new.inner) result }
+    ensures remembers { RemembersFailure sink.old.failed sink.new.failed result }
 {
     let (width, height) = (tiles.width(), tiles.height());
     let count = P::byte_count(width);
@@ -93,9 +90,8 @@ pub(crate) fn say_tiles<W: Write>(
     t: u32,
     plane: &WholePlane,
 ) -> Result<(), SessionFault>
-    ensures said { (text : List ℕ) × SaysFetched (Reply.Shown t) (FetchedValue.Image plane.now) text × Marks marked.old text marked.new × Wrote (W.contents sink.old.inner) (W.contents sink.new.inner) text result }
-    ensures kept { OnOk result (sink.new.failed ≡ sink.old.failed) }
-    ensures flag { OnErr result ((result ≡ Err SessionFault.Write) × (sink.new.failed ≡ true)) }
+    ensures said { WritesMarked (SaysFetched (Reply.Shown t) (FetchedValue.Image plane.now)) marked.old marked.new (W.contents sink.old.inner) (W.contents sink.new.inner) result }
+    ensures remembers { RemembersFailure sink.old.failed sink.new.failed result }
 {
     let (width, height) = (plane.width(), plane.height());
     let Ok(head) = header(alloc, plane.kind(), width, height, plane.maxval()) else {

@@ -11,7 +11,7 @@ pub on_err : {X E : Type 0} {A : Type 0} (r : Result X E) → A → OnErr r A
 on_err (Ok x) a = tt
 on_err (Err e) a = a
 
--- the same from two facts on an error
+-- two facts on an error, and what follows from both
 pub both_on_err : {X E : Type 0} {A B C : Type 0} (r : Result X E) → OnErr r A → OnErr r B → (A → B → C) → OnErr r C
 both_on_err (Ok x) a b f = tt
 both_on_err (Err e) a b f = f a b

@@ -10,9 +10,9 @@ use Rattle.mw_model.specs.declared.names.Name.{Name}
 use Rattle.mw_model.specs.Names.{is_name, name_of, spelling}
 use Rattle.mw_model.proofs.Spellings.{spelling_of}
 use Rattle.mw_model.specs.Lines.{IsName}
-use Rattle.mw_session_intake.specs.Reading.{is_digit, is_number, value_of, number_word, name_word, name_in, number_in, rest, at_end, ◌>>=◌}
+use Rattle.mw_session_intake.specs.Reading.{is_digit, is_number, digits_number, number_word, name_word, name_in, first_number, rest, at_end, ◌>>=◌}
 
-pub own : IsNumeralModel (λ ds. list_all is_digit ds ≡ true) value_of
+pub own : IsNumeralModel (λ ds. list_all is_digit ds ≡ true) digits_number
 own = numerals_by_fold (λ ds. list_all is_digit ds ≡ true) (search rules) (λ n ds. fold (λ k b. 10 * k + (b - 48)) n ds) (search rules)
 
 -- the two ways on of a test
@@ -52,7 +52,7 @@ lone_zero : (b : Bool) (ds : List ℕ) → (get_or ds 0 0 ≡ 48 → b ≡ true)
 lone_zero true ds f h e = eqb-true (length ds) 1 h
 lone_zero false ds f h e = let bad = f e in cc
 
-only_number : (b : Bool) (word : List ℕ) (n : ℕ) → is_number word ≡ b → cond b (Some (value_of word)) None ≡ Some n → (decimal n ≡ word) × (n < 1000000000)
+only_number : (b : Bool) (word : List ℕ) (n : ℕ) → is_number word ≡ b → cond b (Some (digits_number word)) None ≡ Some n → (decimal n ≡ word) × (n < 1000000000)
 only_number true word n h e =
     let p = and_parts (nat_le 1 (length word) && nat_le (length word) 9 && list_all is_digit word) (cond (get_or word 0 0 == 48) (length word == 1) true) h in
     let q = and_parts (nat_le 1 (length word) && nat_le (length word) 9) (list_all is_digit word) p.0 in
@@ -61,7 +61,7 @@ only_number true word n h e =
     let short : length word ≤ 9 = leb-true (length word) 9 r.1 in
     let small = digits_value_short own word 9 q.1 short in
     let zero_alone = lone_zero (get_or word 0 0 == 48) word (eq-eqb (get_or word 0 0) 48) p.1 in
-    let same : value_of word ≡ n = cc in
+    let same : digits_number word ≡ n = cc in
     (rw (← same) (decimal-digits_value own word q.1 (omega arith) zero_alone (omega (arith, small))), rw (← same) (omega (arith, small)))
 only_number false word n h e = cc
 
@@ -83,7 +83,7 @@ number_spelled n h =
     let lengths = and_from (nat_le 1 (length (decimal n))) (nat_le (length (decimal n)) 9) (le-leb 1 (length (decimal n)) some) (le-leb (length (decimal n)) 9 short) in
     let digits = and_from (nat_le 1 (length (decimal n)) && nat_le (length (decimal n)) 9) (list_all is_digit (decimal n)) lengths (digits_decimal own n (omega arith)) in
     let all = and_from (nat_le 1 (length (decimal n)) && nat_le (length (decimal n)) 9 && list_all is_digit (decimal n)) (cond (get_or (decimal n) 0 0 == 48) (length (decimal n) == 1) true) digits (first_digit n h) in
-    cond-true (is_number (decimal n)) (Some (value_of (decimal n))) None all ∙ ap Some (digits_value-decimal own n (omega arith))
+    cond-true (is_number (decimal n)) (Some (digits_number (decimal n))) None all ∙ ap Some (digits_value-decimal own n (omega arith))
 
 -- a reading that begins with a name
 pub name_first : {B : Type 0} (ws : List (List ℕ)) (f : Name → Option B) (y : B) → (name_in ws >>= f) ≡ Some y →
@@ -95,7 +95,7 @@ name_first (w ∷ ws) f y e =
     (b.0, ap (λ v. v ∷ ws) r.0, r.1, b.2)
 
 -- a reading that begins with a number
-pub number_first : {B : Type 0} (ws : List (List ℕ)) (f : ℕ → Option B) (y : B) → (number_in ws >>= f) ≡ Some y →
+pub number_first : {B : Type 0} (ws : List (List ℕ)) (f : ℕ → Option B) (y : B) → (first_number ws >>= f) ≡ Some y →
     (n : ℕ) × (ws ≡ decimal n ∷ rest ws) × (n < 1000000000) × (f n ≡ Some y)
 number_first [] f y e = cc
 number_first (w ∷ ws) f y e =

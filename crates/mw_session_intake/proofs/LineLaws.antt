@@ -16,7 +16,7 @@ use Rattle.mw_model.specs.declared.requests.Head.{Head}
 use Rattle.mw_model.specs.declared.requests.Head.TheVariants.{Payload, Alone}
 use Rattle.mw_model.specs.Names.{spelling}
 use Rattle.mw_model.specs.Lines.{Word, Fixed, ForName, ForNumber, Fits, IsName, spelled, op_words, words_of, line_of, IsSayable}
-use Rattle.mw_session_intake.specs.Reading.{words, word_in, name_in, number_in, rest, at_end, one_name, two_names, three_names, name_and_number, two_names_and_number, name_and_three_numbers, window_op, op_with, run_in, ask_with, head_with, head_of, ◌>>=◌}
+use Rattle.mw_session_intake.specs.Reading.{words, word_in, name_in, first_number, rest, at_end, one_name, two_names, three_names, name_and_number, two_names_and_number, name_and_three_numbers, window_op, op_with, run_in, ask_with, head_with, head_of, ◌>>=◌}
 use Rattle.mw_session_intake.proofs.Fields.{if_some, bind_some, text_is, end_some, name_first, number_first}
 
 -- these words are those, and each of them may stand there
@@ -60,24 +60,24 @@ three_names_says ws a e =
 
 name_and_number_says : (ws : List (List ℕ)) (a : Name × ℕ) → name_and_number ws ≡ Some a → Says ws (ForName a.0 ∷ ForNumber a.1 ∷ [])
 name_and_number_says ws a e =
-    let p = name_first ws (λ x. number_in (rest ws) >>= (λ y. at_end (rest (rest ws)) (x, y))) a e in
+    let p = name_first ws (λ x. first_number (rest ws) >>= (λ y. at_end (rest (rest ws)) (x, y))) a e in
     let q = number_first (rest ws) (λ y. at_end (rest (rest ws)) (p.0, y)) a p.3 in
     let z = end_some (rest (rest ws)) (p.0, q.0) a q.3 in
     rw (← z.1) (says_name p.1 p.2 (says_number q.1 q.2 (says_none z.0)))
 
 two_names_and_number_says : (ws : List (List ℕ)) (a : Name × Name × ℕ) → two_names_and_number ws ≡ Some a → Says ws (ForName a.0 ∷ ForName a.1 ∷ ForNumber a.2 ∷ [])
 two_names_and_number_says ws a e =
-    let p = name_first ws (λ x. name_in (rest ws) >>= (λ y. number_in (rest (rest ws)) >>= (λ v. at_end (rest (rest (rest ws))) (x, y, v)))) a e in
-    let q = name_first (rest ws) (λ y. number_in (rest (rest ws)) >>= (λ v. at_end (rest (rest (rest ws))) (p.0, y, v))) a p.3 in
+    let p = name_first ws (λ x. name_in (rest ws) >>= (λ y. first_number (rest (rest ws)) >>= (λ v. at_end (rest (rest (rest ws))) (x, y, v)))) a e in
+    let q = name_first (rest ws) (λ y. first_number (rest (rest ws)) >>= (λ v. at_end (rest (rest (rest ws))) (p.0, y, v))) a p.3 in
     let r = number_first (rest (rest ws)) (λ v. at_end (rest (rest (rest ws))) (p.0, q.0, v)) a q.3 in
     let z = end_some (rest (rest (rest ws))) (p.0, q.0, r.0) a r.3 in
     rw (← z.1) (says_name p.1 p.2 (says_name q.1 q.2 (says_number r.1 r.2 (says_none z.0))))
 
 name_and_three_numbers_says : (ws : List (List ℕ)) (a : Name × ℕ × ℕ × ℕ) → name_and_three_numbers ws ≡ Some a → Says ws (ForName a.0 ∷ ForNumber a.1 ∷ ForNumber a.2 ∷ ForNumber a.3 ∷ [])
 name_and_three_numbers_says ws a e =
-    let p = name_first ws (λ x. number_in (rest ws) >>= (λ y. number_in (rest (rest ws)) >>= (λ v. number_in (rest (rest (rest ws))) >>= (λ w. at_end (rest (rest (rest (rest ws)))) (x, y, v, w))))) a e in
-    let q = number_first (rest ws) (λ y. number_in (rest (rest ws)) >>= (λ v. number_in (rest (rest (rest ws))) >>= (λ w. at_end (rest (rest (rest (rest ws)))) (p.0, y, v, w)))) a p.3 in
-    let r = number_first (rest (rest ws)) (λ v. number_in (rest (rest (rest ws))) >>= (λ w. at_end (rest (rest (rest (rest ws)))) (p.0, q.0, v, w))) a q.3 in
+    let p = name_first ws (λ x. first_number (rest ws) >>= (λ y. first_number (rest (rest ws)) >>= (λ v. first_number (rest (rest (rest ws))) >>= (λ w. at_end (rest (rest (rest (rest ws)))) (x, y, v, w))))) a e in
+    let q = number_first (rest ws) (λ y. first_number (rest (rest ws)) >>= (λ v. first_number (rest (rest (rest ws))) >>= (λ w. at_end (rest (rest (rest (rest ws)))) (p.0, y, v, w)))) a p.3 in
+    let r = number_first (rest (rest ws)) (λ v. first_number (rest (rest (rest ws))) >>= (λ w. at_end (rest (rest (rest (rest ws)))) (p.0, q.0, v, w))) a q.3 in
     let s = number_first (rest (rest (rest ws))) (λ w. at_end (rest (rest (rest (rest ws)))) (p.0, q.0, r.0, w)) a r.3 in
     let z = end_some (rest (rest (rest (rest ws)))) (p.0, q.0, r.0, s.0) a s.3 in
     rw (← z.1) (says_name p.1 p.2 (says_number q.1 q.2 (says_number r.1 r.2 (says_number s.1 s.2 (says_none z.0)))))

@@ -8,7 +8,7 @@ use Rattle.mw_model.specs.declared.requests.Awaited.{Awaited}
 use Rattle.mw_model.specs.declared.requests.Head.TheVariants.{Payload}
 use Rattle.mw_session_intake.specs.declared.cut.Cut.{Cut}
 use Rattle.mw_session_intake.specs.declared.cut.Cut.TheVariants as cut
-use Rattle.mw_session_intake.specs.Cut.{IsCut}
+use Rattle.mw_session_intake.specs.Cut.{IsCutOf}
 use Rattle.mw_session_intake.specs.Intake.{IsPayloadLine, Misses}
 use Rattle.mw_session_intake.specs.Reading.{is_line_end, front}
 use Rattle.mw_session_intake.proofs.Front.{front_gathered, payload_partial}
@@ -56,7 +56,7 @@ pub misses_rest : (bytes line got : List ℕ) (what : Awaited) (len n : ℕ) →
 misses_rest bytes line got what len n is g sum = (line, got, what, is, rw sum g)
 
 -- what is no line that awaits a payload misses nothing
-pub cut_misses_none : (c : Cut) (bytes : List ℕ) (n : ℕ) → IsCut c bytes → ((what : Awaited) (len used : ℕ) → c ≡ cut.Payload what len used → ⊥) → 0 < n → ¬ Misses bytes n
+pub cut_misses_none : (c : Cut) (bytes : List ℕ) (n : ℕ) → IsCutOf c bytes → ((what : Awaited) (len used : ℕ) → c ≡ cut.Payload what len used → ⊥) → 0 < n → ¬ Misses bytes n
 cut_misses_none (cut.Bad d) bytes n is other some m = let waits = misses_partial bytes n some m in cc
 cut_misses_none cut.More bytes n is other some m = let whole = misses_line bytes n m in omega (arith, whole, is.1)
 cut_misses_none (cut.Alone a used) bytes n is other some m = let waits = misses_partial bytes n some m in cc

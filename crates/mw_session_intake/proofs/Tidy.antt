@@ -5,7 +5,7 @@ use Rattle.std.proofs.lemmas.Bool.{cases_lt}
 use Rattle.mw_model.proofs.mw_facts.Positions.{position_length, position_kept, position_take}
 use Rattle.mw_model.specs.Lines.{Partial}
 use Rattle.mw_model.specs.declared.requests.Awaited.{Awaited}
-use Rattle.mw_session_intake.specs.Intake.{Held, CameWithLine, IsOpen, IsPayloadLine, IsPortion, IsTidy, Misses}
+use Rattle.mw_session_intake.specs.Intake.{Held, CameWithLine, HasNoWholeLine, IsPayloadLine, IsPortion, IsTidy, Misses}
 use Rattle.mw_session_intake.specs.Reading.{is_line_end, front}
 use Rattle.mw_session_intake.proofs.Front.{gathering_whole}
 use Rattle.mw_session_intake.proofs.Misses.{misses_line, misses_rest}
@@ -66,12 +66,12 @@ gathered_loose h line payload waits what len is g (inr t) long =
     let sum : length (line ++ payload ++ waits) ≡ length line + length payload + length waits = simp length-append in
     absurd (omega (arith, all, sum, t.0, long, g.ends))
 
-pub open_tidy : (h : Held) → IsOpen h → IsTidy h
+pub open_tidy : (h : Held) → HasNoWholeLine h → IsTidy h
 open_tidy h (inl none) = inl none
 open_tidy h (inr o) = inr (o.0, omega (arith, o.1))
 
 -- a piece of a line was fed
-pub tidy_line : (old new : Held) (piece : List ℕ) → new.loose ≡ length new.bytes → new.bytes ≡ old.bytes ++ piece → old.loose ≡ length old.bytes → IsOpen old → IsPortion old piece → IsTidy new
+pub tidy_line : (old new : Held) (piece : List ℕ) → new.loose ≡ length new.bytes → new.bytes ≡ old.bytes ++ piece → old.loose ≡ length old.bytes → HasNoWholeLine old → IsPortion old piece → IsTidy new
 tidy_line old new piece loose is was o portion =
     let none_yet : position_or_len is_line_end old.bytes ≡ length old.bytes = elim o [
       | inl none ↦ omega (arith, position_length is_line_end old.bytes, none, was)
@@ -86,7 +86,7 @@ tidy_line old new piece loose is was o portion =
 
 -- a piece of a payload was fed
 pub tidy_payload : (old : Held) (line payload waits mine other : List ℕ) (what : Awaited) (len : ℕ) → line ++ payload ++ waits ≡ old.bytes → IsPayloadLine line what len → length waits ≡ old.loose → length payload ≤ len
-    → IsOpen old → front old.bytes ≡ Partial → IsPortion old (mine ++ other) → length mine ≡ min (len - length payload) (length (mine ++ other)) → length waits + length other ≡ 0
+    → HasNoWholeLine old → front old.bytes ≡ Partial → IsPortion old (mine ++ other) → length mine ≡ min (len - length payload) (length (mine ++ other)) → length waits + length other ≡ 0
 tidy_payload old line payload waits mine other what len is g long few o part portion count =
     let none = gathered_loose old line payload waits what len is g (open_tidy old o) long in
     let all = length-append mine other in

@@ -8,8 +8,8 @@ use Rattle.mw_session_intake.specs.Reading.{front, is_line_end}
 use Rattle.mw_session_intake.specs.Intake.{IsPayloadLine}
 
 -- The last number is that of the line's bytes, its LF counted.
-abbrev pub IsCut : Cut → List ℕ → Type 0
-IsCut (Bad c) bytes = front bytes ≡ Fault c
-IsCut More bytes = (front bytes ≡ Partial) × (position_or_len is_line_end bytes ≡ length bytes)
-IsCut (Alone a used) bytes = (0 < used) × (used ≤ length bytes) × (front bytes ≡ Found (AskAlone a) (drop used bytes)) × (used ≡ position_or_len is_line_end bytes + 1)
-IsCut (Payload what len used) bytes = (used ≤ length bytes) × IsPayloadLine (take used bytes) what len
+abbrev pub IsCutOf : Cut → List ℕ → Type 0
+IsCutOf (Bad c) bytes = front bytes ≡ Fault c
+IsCutOf More bytes = (front bytes ≡ Partial) × (position_or_len is_line_end bytes ≡ length bytes)
+IsCutOf (Alone a used) bytes = (0 < used) × (used ≤ length bytes) × (front bytes ≡ Found (AskAlone a) (drop used bytes)) × (used ≡ position_or_len is_line_end bytes + 1)
+IsCutOf (Payload what len used) bytes = (used ≤ length bytes) × IsPayloadLine (take used bytes) what len

@@ -64,8 +64,8 @@ abbrev pub IsTidy : Held → Type 0
 IsTidy h = (h.loose ≡ 0) ⊎ ((h.loose ≡ length h.bytes) × (length h.bytes ≤ position_or_len is_line_end h.bytes + 1))
 
 -- nothing is loose, or less than a line
-abbrev pub IsOpen : Held → Type 0
-IsOpen h = (h.loose ≡ 0) ⊎ ((h.loose ≡ length h.bytes) × (position_or_len is_line_end h.bytes ≡ length h.bytes))
+abbrev pub HasNoWholeLine : Held → Type 0
+HasNoWholeLine h = (h.loose ≡ 0) ⊎ ((h.loose ≡ length h.bytes) × (position_or_len is_line_end h.bytes ≡ length h.bytes))
 
 -- The piece goes no further than to the end of the payload that is gathered, or else of a line.
 pub record IsPortion (h : Held) (piece : List ℕ) : Type 0 where
@@ -75,7 +75,7 @@ pub record IsPortion (h : Held) (piece : List ℕ) : Type 0 where
 -- what next leaves of tidy bytes
 abbrev pub Leaves : Next → Held → Type 0
 Leaves (next.Request r) new = (new.loose ≡ 0) × (new.bytes ≡ [])
-Leaves next.More new = IsOpen new
+Leaves next.More new = HasNoWholeLine new
 Leaves (next.Bad c) new = Unit {0}
 
 -- the line that asks for a payload of this length, with its LF

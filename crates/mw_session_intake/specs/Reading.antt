@@ -16,6 +16,7 @@ use Rattle.mw_model.specs.declared.requests.Head.TheVariants.{Payload, Alone}
 use Rattle.mw_model.specs.declared.codes.Code.TheVariants as code
 use Rattle.mw_model.specs.Names.{is_name, name_of}
 use Rattle.mw_model.specs.Lines.{Front, Partial, Fault, after_head}
+pub use Rattle.mw_model.specs.NetpbmGrammar.{is_digit}
 
 infixl 10 ◌>>=◌
 -- one reading after another
@@ -27,10 +28,6 @@ None >>= f = None
 abbrev pub is_blank : ℕ → Bool
 is_blank b = b == 32
 
--- 0 to 9
-abbrev pub is_digit : ℕ → Bool
-is_digit b = nat_le 48 b && nat_le b 57
-
 -- the words of a line: what stands before, between and behind its blanks
 abbrev pub words : List ℕ → List (List ℕ)
 words = slice_split is_blank
@@ -40,8 +37,8 @@ abbrev pub name_word : List ℕ → Option Name
 name_word word = if is_name word then Some (name_of word) else None
 
 -- the number that digits spell
-abbrev pub value_of : List ℕ → ℕ
-value_of = fold (λ n b. 10 * n + (b - 48)) 0
+abbrev pub digits_number : List ℕ → ℕ
+digits_number = fold (λ n b. 10 * n + (b - 48)) 0
 
 -- one to nine digits, the first of which is 0 only where it stands alone
 abbrev pub is_number : List ℕ → Bool
@@ -49,7 +46,7 @@ is_number word = nat_le 1 (length word) && nat_le (length word) 9 && list_all is
 
 -- a number
 abbrev pub number_word : List ℕ → Option ℕ
-number_word word = if is_number word then Some (value_of word) else None
+number_word word = if is_number word then Some (digits_number word) else None
 
 -- the words behind the first
 abbrev pub rest : List (List ℕ) → List (List ℕ)
@@ -65,8 +62,8 @@ abbrev pub name_in : List (List ℕ) → Option Name
 name_in ws = word_in ws >>= name_word
 
 -- the first word, read as a number
-abbrev pub number_in : List (List ℕ) → Option ℕ
-number_in ws = word_in ws >>= number_word
+abbrev pub first_number : List (List ℕ) → Option ℕ
+first_number ws = word_in ws >>= number_word
 
 -- what is said where no word is left
 abbrev pub at_end : {A : Type 0} → List (List ℕ) → A → Option A
@@ -98,7 +95,7 @@ three_names ws = do
 abbrev pub name_and_number : List (List ℕ) → Option (Name × ℕ)
 name_and_number ws = do
   a ← name_in ws
-  n ← number_in (rest ws)
+  n ← first_number (rest ws)
   at_end (rest (rest ws)) (a, n)
 
 -- two names, a number and no more
@@ -106,16 +103,16 @@ abbrev pub two_names_and_number : List (List ℕ) → Option (Name × Name × �
 two_names_and_number ws = do
   a ← name_in ws
   b ← name_in (rest ws)
-  n ← number_in (rest (rest ws))
+  n ← first_number (rest (rest ws))
   at_end (rest (rest (rest ws))) (a, b, n)
 
 -- a name, three numbers and no more
 abbrev pub name_and_three_numbers : List (List ℕ) → Option (Name × ℕ × ℕ × ℕ)
 name_and_three_numbers ws = do
   a ← name_in ws
-  k ← number_in (rest ws)
-  m ← number_in (rest (rest ws))
-  n ← number_in (rest (rest (rest ws)))
+  k ← first_number (rest ws)
+  m ← first_number (rest (rest ws))
+  n ← first_number (rest (rest (rest ws)))
   at_end (rest (rest (rest (rest ws)))) (a, k, m, n)
 
 -- the operations on an image and an element

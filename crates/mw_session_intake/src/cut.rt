@@ -1,6 +1,6 @@
 //! What stands at the front of bytes that are no payload.
 
-ghost use Rattle.mw_session_intake.specs.Cut.{IsCut};
+ghost use Rattle.mw_session_intake.specs.Cut.{IsCutOf};
 
 use crate::line::{LINE_LIMIT, PAYLOAD_LIMIT, head, line_end};
 use mw_model::{Ask, Awaited, Code, Head};
@@ -17,7 +17,7 @@ pub enum Cut {
 
 #[tactic(auto, using(crate::proofs::Front::front_long))]
 pub fn cut_front(bytes: &[u8]) -> Cut
-    ensures { IsCut result bytes.now }
+    ensures { IsCutOf result bytes.now }
 {
     let end = line_end(bytes);
     if end > LINE_LIMIT {

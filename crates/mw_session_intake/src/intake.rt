@@ -2,7 +2,7 @@
 
 ghost use Rattle.std.specs.Prelude.{◌≡◌, ◌++◌, ◌≤◌, ◌<◌, ◌+◌, ◌*◌, ◌⊎◌, ℕ, [], length, take, drop, min, max, vec_len, vec_capacity, IfOk, OnOk, OnErr, IsTrue, ◌↔◌};
 ghost use Rattle.std.specs.List.{position_or_len};
-ghost use Rattle.mw_session_intake.specs.Intake.{TellsFront, Falls, CameWithLine, IsOpen, IsPortion, IsTidy, Leaves, Misses, asked};
+ghost use Rattle.mw_session_intake.specs.Intake.{TellsFront, Falls, CameWithLine, HasNoWholeLine, IsPortion, IsTidy, Leaves, Misses, asked};
 ghost use Rattle.mw_session_intake.specs.Reading.{front, is_line_end};
 ghost use Rattle.mw_model.specs.Lines.{AskAlone, Partial, asked_with};
 
@@ -70,7 +70,7 @@ impl Intake {
         ensures err { OnErr result (self.new.bytes ≡ self.old.bytes) }
         ensures memory { OnErr result (self.old.spare < length piece.now) }
         ensures still { OnErr result (self.new.spare < length piece.now) }
-        ensures tidy { OnOk result (IsOpen self.old → front self.old.bytes ≡ Partial → IsPortion self.old piece.now → IsTidy self.new) }
+        ensures tidy { OnOk result (HasNoWholeLine self.old → front self.old.bytes ≡ Partial → IsPortion self.old piece.now → IsTidy self.new) }
     {
         drop_front(&mut self.rest, self.at);
         self.at = 0;

@@ -2,7 +2,7 @@
 
 ghost use Rattle.std.specs.Prelude.{◌≡◌, ◌≤◌, ◌<◌, ◌+◌, ℕ, List, ◌∷◌, length, true};
 ghost use Rattle.std.specs.List.{position_or_len, list_all};
-ghost use Rattle.mw_session_intake.specs.Reading.{words, word_in, name_in, number_in, rest, at_end, is_blank, is_digit, is_number, number_word, value_of};
+ghost use Rattle.mw_session_intake.specs.Reading.{words, word_in, name_in, first_number, rest, at_end, is_blank, is_digit, is_number, number_word, digits_number};
 ghost use Rattle.mw_session_intake.specs.Words.{words_left, seen};
 
 use mw_model::Name;
@@ -52,7 +52,7 @@ impl<'a> LineWords<'a> {
 
     /// Takes the next word, and reads it as a number.
     pub fn number(&mut self) -> Option<u32>
-        ensures number { result ≡ number_in self.old }
+        ensures number { result ≡ first_number self.old }
         ensures rest { self.new ≡ rest self.old }
     {
         let word = self.word()?;
@@ -130,7 +130,7 @@ fn is_digit_byte(b: u8) -> bool
 fn value(digits: &[u8]) -> u32
     requires few { length digits.now ≤ 9 }
     requires digits { list_all is_digit digits.now ≡ true }
-    ensures { result ≡ value_of digits.now }
+    ensures { result ≡ digits_number digits.now }
 {
     let mut n: u32 = 0;
     for d in digits {

@@ -1,6 +1,6 @@
 -- Planes that hold the image of a tile.
 use Rattle.std.proofs.Common.{◌≡◌, ℕ, ◌+◌, ◌*◌, ◌<◌, List, length, slice_get, Some, Result, Ok, Err, IfOk, false, refl, ap, sym, ◌∙◌}
-use Rattle.mw_model.specs.declared.places.Rect.{Rect}
+use Rattle.mw_model.specs.declared.offsets.Rect.{Rect}
 use Rattle.mw_model.specs.declared.shapes.Kind.{Kind}
 use Rattle.mw_model.specs.Rasters.{Raster}
 use Rattle.mw_model.specs.Windows.{View, seen_at}
@@ -44,7 +44,7 @@ made_image t f (Grey8 p maxval) not is holds = (not, (is ∙ holds.0, holds.1))
 made_image t f (Grey16 p maxval) not is holds = (not, (is ∙ holds.0, holds.1))
 made_image t f (Number n) not is holds = absurd holds
 
--- the same of a step of one source
+-- what is made of a step of one source
 pub made_of_one : (t : WindowTask) (s : PlanStep) (u : SourceWindow) (tile : Rect) (m : TileResult) → is_sum s ≡ false → t.step ≡ s → u ≡ window_at t.windows 0 → tile ≡ t.rect
     → HoldsImage (tile_by s u (window_at t.windows 1) (window_at t.windows 2) tile) m → IsMade t m
 made_of_one t s u tile m not step first tile-is holds =

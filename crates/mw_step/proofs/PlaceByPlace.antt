@@ -6,7 +6,7 @@ use Rattle.std.proofs.lemmas.List.{get_or-map, length-map, get_or-replicate, len
 use Rattle.std.proofs.lemmas.Nat.{mul-add-lt}
 use Rattle.std.proofs.lemmas.Option.{unwrap_or-slice_get}
 use Rattle.std.proofs.lemmas.Simd.{get_or-zip2, length-zip2}
-use Rattle.mw_model.specs.declared.places.Rect.{Rect}
+use Rattle.mw_model.specs.declared.offsets.Rect.{Rect}
 use Rattle.mw_model.specs.declared.shapes.Kind.{Kind}
 use Rattle.mw_model.specs.declared.shapes.Kind.TheVariants as kind
 use Rattle.mw_model.specs.Rasters.{Raster, raster}
@@ -119,7 +119,7 @@ marked_cells kind maxval v a b c b-place c-place a-size b-size c-size =
     choice true v s = refl
     choice false v s = refl
 
--- the same, where the windows and cells are given by equations
+-- what is made place by place, where the windows and cells are given by equations
 pub both_given : (kind : Kind) (maxval : ℕ) (value : ℕ → ℕ → ℕ) (a b s : View ℕ) (cells : List ℕ) → s ≡ b → cells ≡ s.cells → Fills s.place s → a.place ≡ b.place → Fills a.place a
     → plane_drawn kind maxval a.place (zip2 value a.cells cells) ≡ both_drawn kind maxval value a b
 both_given kind maxval value a b s cells s-is cells-is s-size place a-size =

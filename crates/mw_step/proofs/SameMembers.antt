@@ -2,10 +2,10 @@
 use Rattle.std.proofs.Common.{◌≡◌, ℕ, ◌+◌, pos, ◌+ℤ◌, List, [], ◌∷◌, Option, Some, None, IfSome, fold, refl, ap, sym, ◌∙◌}
 use Rattle.std.specs.List.{AllByRecursion, filter_map, cons_option}
 use Rattle.mw_model.proofs.mw_facts.Alls.{all-each_contained, all-contains}
-use Rattle.mw_model.specs.declared.places.Offset.{Offset}
-use Rattle.mw_model.specs.declared.places.OffsetBox.{OffsetBox}
-use Rattle.mw_model.specs.declared.places.Rect.{Rect}
-use Rattle.mw_model.specs.Places.{box_offsets}
+use Rattle.mw_model.specs.declared.offsets.Offset.{Offset}
+use Rattle.mw_model.specs.declared.offsets.OffsetBox.{OffsetBox}
+use Rattle.mw_model.specs.declared.offsets.Rect.{Rect}
+use Rattle.mw_model.specs.Rectangles.{box_offsets}
 use Rattle.mw_step_task.specs.mw_element.Figures.{FillsBox}
 use Rattle.mw_model.specs.Rasters.{Raster, Sight, seen_under}
 use Rattle.mw_rank_bits.specs.mw_line.Extrema.{IsSlidingExtremum}

@@ -4,7 +4,7 @@ use Rattle.std.specs.Prelude.{◌==◌, ◌&&◌, if◌then◌else◌}
 use lib.Lanes.{zip2}
 use Rattle.std.proofs.lemmas.Bool.{eqb-true, and_parts}
 use Rattle.std.proofs.lemmas.Simd.{get_or-zip2, length-zip2}
-use Rattle.mw_model.specs.declared.places.Rect.{Rect}
+use Rattle.mw_model.specs.declared.offsets.Rect.{Rect}
 use Rattle.mw_model.specs.declared.shapes.Kind.{Kind}
 use Rattle.mw_model.specs.Rasters.{Raster, raster}
 use Rattle.mw_model.specs.Windows.{View}
@@ -64,7 +64,7 @@ unmarked kind maxval v a b c place other_place a-size b-size c-size none =
     let rest : get_or b.cells k 0 - get_or c.cells k 0 ≡ 0 = sym (get_or-zip2 less b.cells c.cells k 0 0 0 (omega (arith, first, lt)) (omega (arith, second, lt))) ∙ none k (omega (arith, length-zip2 less b.cells c.cells (first ∙ sym second), first, lt)) in
     omega (arith, one, zero, rest))))
 
--- the same, where the windows are given by equations
+-- the last marks keep the first source, where the windows are given by equations
 pub kept_last : (w u : SourceWindow) (v : ℕ) (b s : View ℕ) → w ≡ u → s ≡ b → u.view.place ≡ b.place → Fills w.view.place w.view → Fills s.place s → HasOnly 0 s.cells
     → plane_drawn w.kind w.maxval w.view.place w.view.cells ≡ both_drawn u.kind u.maxval (λ s m. if m == 1 then v else s) u.view b
 kept_last w u v b s w-is s-is place w-size s-size none =

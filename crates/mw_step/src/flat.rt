@@ -1,7 +1,7 @@
 //! Erosions, dilations and ranks of windows.
 
 ghost use Rattle.std.specs.Prelude.{IfOk};
-ghost use Rattle.mw_model.specs.Places.{box_offsets};
+ghost use Rattle.mw_model.specs.Rectangles.{box_offsets};
 ghost use Rattle.mw_model.specs.PlanSteps.{ranked};
 ghost use Rattle.mw_model.specs.Rasters.{seen_under};
 ghost use Rattle.mw_model.specs.Windows.{seen_at};

@@ -3,7 +3,7 @@
 //! ```text
 //! let work = Work::new(task, tile, step, windows)?;    // None where the windows are not those of the step
 //! let done = mw_step::run(alloc, work)?;               // Err only where memory is refused
-//! let made = mw_step::compute(alloc, &work)?;             // the same, where the work is shared
+//! let made = mw_step::compute(alloc, &work)?;          // what run makes, where the work is shared
 //! ```
 #![tactic(auto)]
 

@@ -28,7 +28,7 @@ fn source<'a>(work: &Work, windows: &'a [AnyWindow], k: usize) -> &'a AnyWindow
     &windows[k]
 }
 
-/// The same window as the pieces that it was put together from.
+/// The window of the source of this number, as the pieces that it is made of.
 fn in_pieces(work: &Work, k: usize) -> &SharedWindow
     requires { k < source_count work.now.step }
     ensures { result.now ≡ window_at work.now.windows k }

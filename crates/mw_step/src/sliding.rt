@@ -1,7 +1,7 @@
 //! The extremum of what a window has under an element or a box.
 
 ghost use Rattle.std.specs.Prelude.{IfOk};
-ghost use Rattle.mw_model.specs.Places.{box_offsets};
+ghost use Rattle.mw_model.specs.Rectangles.{box_offsets};
 ghost use Rattle.mw_model.specs.Windows.{seen_at};
 ghost use Rattle.mw_rank_bits.specs.mw_line.Extrema.{IsSlidingExtremum};
 

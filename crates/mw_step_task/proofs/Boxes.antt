@@ -4,10 +4,10 @@ use Rattle.std.specs.List.{range_with_len, flat_map, AllByRecursion}
 use Rattle.std.proofs.lemmas.Int.{ints}
 use Rattle.mw_model.proofs.mw_facts.Alls.{all-append, all-append_left, all-append_right, all-weaker}
 use Rattle.mw_model.proofs.mw_facts.Numbers.{add_one-add}
-use Rattle.mw_model.specs.declared.places.Offset.{Offset}
-use Rattle.mw_model.specs.declared.places.OffsetBox.{OffsetBox}
-use Rattle.mw_model.specs.Places.{span, nonnegative, box_offsets}
-use Rattle.mw_model.specs.declared.places.Reach.{Reach}
+use Rattle.mw_model.specs.declared.offsets.Offset.{Offset}
+use Rattle.mw_model.specs.declared.offsets.OffsetBox.{OffsetBox}
+use Rattle.mw_model.specs.Rectangles.{span, nonnegative, box_offsets}
+use Rattle.mw_model.specs.declared.offsets.Reach.{Reach}
 use Rattle.mw_model.specs.Flat.{greatest}
 use Rattle.mw_model.specs.Elements.{reach_of}
 use Rattle.mw_model.proofs.Covers.{offset}

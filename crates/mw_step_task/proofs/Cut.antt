@@ -6,11 +6,11 @@ use Rattle.std.proofs.lemmas.Bool.{cases_lt, lt-ltb, le-ltb}
 use Rattle.std.proofs.lemmas.Int.{ints}
 use Rattle.std.proofs.lemmas.Option.{slice_get-get_or}
 use Rattle.std.proofs.lemmas.Nat.{mul-add-lt}
-use Rattle.mw_model.specs.declared.places.Offset.{Offset}
-use Rattle.mw_model.specs.declared.places.Rect.{Rect}
+use Rattle.mw_model.specs.declared.offsets.Offset.{Offset}
+use Rattle.mw_model.specs.declared.offsets.Rect.{Rect}
 use Rattle.mw_model.specs.declared.shapes.Kind.{Kind}
 use Rattle.mw_model.specs.Flat.{least, greatest}
-use Rattle.mw_model.specs.Places.{rect, IsWithin, box_offsets}
+use Rattle.mw_model.specs.Rectangles.{rect, IsWithin, box_offsets}
 use Rattle.mw_grid.specs.Rectangles.{Reaches}
 use Rattle.mw_tile_pieces.specs.mw_tile.Windows.{IsCut, SourceWindow, no_window, window_of}
 use Rattle.mw_model.specs.Elements.{reach_of}

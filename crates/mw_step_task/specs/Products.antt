@@ -1,7 +1,7 @@
 -- What a task makes.
 use Rattle.std.specs.Prelude.{◌≡◌, ℕ, ◌≤◌, true, false, List, [], ◌∷◌}
 use Rattle.std.specs.Arc.{arc_value}
-use Rattle.mw_model.specs.declared.places.Rect.{Rect}
+use Rattle.mw_model.specs.declared.offsets.Rect.{Rect}
 use Rattle.mw_model.specs.declared.shapes.Kind.{Kind}
 use Rattle.mw_model.specs.Pictures.{Picture}
 use Rattle.mw_model.specs.Windows.{View, seen_at}
@@ -42,11 +42,11 @@ tile_drawn kind maxval tile value = record { kind = kind; width = tile.width; he
 abbrev pub three_drawn : Kind → ℕ → (ℕ → ℕ → ℕ → ℕ) → View ℕ → View ℕ → View ℕ → Picture
 three_drawn kind maxval value a b c = tile_drawn kind maxval a.place (λ x y. value (here (seen_at a) x y) (here (seen_at b) x y) (here (seen_at c) x y))
 
--- the same of two windows
+-- the image of these values of what two windows of one place show there
 abbrev pub both_drawn : Kind → ℕ → (ℕ → ℕ → ℕ) → View ℕ → View ℕ → Picture
 both_drawn kind maxval value a b = tile_drawn kind maxval a.place (λ x y. value (here (seen_at a) x y) (here (seen_at b) x y))
 
--- the same of one
+-- the image of these values of what a window shows
 abbrev pub each_drawn : Kind → ℕ → (ℕ → ℕ) → View ℕ → Picture
 each_drawn kind maxval value a = tile_drawn kind maxval a.place (λ x y. value (here (seen_at a) x y))
 

@@ -1,7 +1,7 @@
 -- Tasks on windows that were cut from whole planes.
 use Rattle.std.specs.Prelude.{◌≡◌, ℕ, List, map}
-use Rattle.mw_model.specs.declared.places.Rect.{Rect}
-use Rattle.mw_model.specs.Places.{IsWithin}
+use Rattle.mw_model.specs.declared.offsets.Rect.{Rect}
+use Rattle.mw_model.specs.Rectangles.{IsWithin}
 use Rattle.mw_model.specs.Pictures.{Picture}
 use Rattle.mw_model.specs.PlanSteps.{PlanStep}
 use Rattle.mw_model.specs.Tasks.{place_read}

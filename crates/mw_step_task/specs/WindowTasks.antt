@@ -1,11 +1,11 @@
 -- A task with the windows that it reads (own).
 use Rattle.std.specs.Prelude.{◌≡◌, ℕ, ◌≤◌, List, length, All, slice_index_or}
 use Rattle.std.specs.List.{AllByRecursion}
-use Rattle.mw_model.specs.declared.places.Rect.{Rect}
+use Rattle.mw_model.specs.declared.offsets.Rect.{Rect}
 use Rattle.mw_model.specs.declared.tasks.TaskId.{TaskId}
 use Rattle.mw_model.specs.declared.shapes.Kind.TheVariants as kind
 use Rattle.mw_model.specs.declared.limits.TheConstants.{SIDE_LIMIT}
-use Rattle.mw_model.specs.Places.{IsWithin}
+use Rattle.mw_model.specs.Rectangles.{IsWithin}
 use Rattle.mw_model.specs.Pictures.{Picture}
 use Rattle.mw_model.specs.Rasters.{Sight}
 use Rattle.mw_model.specs.Windows.{seen_at}

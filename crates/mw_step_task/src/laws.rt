@@ -2,11 +2,11 @@
 
 ghost use Rattle.std.specs.Prelude.{◌≡◌, ℕ, ◌≤◌, List, [], ◌∷◌, length, All, false};
 ghost use Rattle.std.specs.List.{AllByRecursion};
-ghost use Rattle.mw_model.specs.declared.places.Offset.{Offset};
-ghost use Rattle.mw_model.specs.declared.places.Rect.{Rect};
+ghost use Rattle.mw_model.specs.declared.offsets.Offset.{Offset};
+ghost use Rattle.mw_model.specs.declared.offsets.Rect.{Rect};
 ghost use Rattle.mw_model.specs.declared.limits.TheConstants.{SIDE_LIMIT};
 ghost use Rattle.mw_model.specs.Flat.{erosion, dilation, minus, threshold, complement, rank};
-ghost use Rattle.mw_model.specs.Places.{rect};
+ghost use Rattle.mw_model.specs.Rectangles.{rect};
 ghost use Rattle.mw_model.specs.Pictures.{Picture, IsPicture};
 ghost use Rattle.mw_model.specs.Plans.{is_sum, plane_of};
 ghost use Rattle.mw_model.specs.PlanSteps.{PlanStep};

@@ -2,7 +2,7 @@
 
 ghost use Rattle.std.specs.Prelude.{◌≡◌, ◌↔◌, IsTrue, neg_ℤ};
 ghost use Rattle.mw_model.specs.Elements.{reach_of};
-ghost use Rattle.mw_model.specs.Places.{nonnegative, box_offsets};
+ghost use Rattle.mw_model.specs.Rectangles.{nonnegative, box_offsets};
 
 use mw_model::{OffsetBox, Reach};
 

@@ -2,7 +2,7 @@
 
 ghost use Rattle.std.specs.Prelude.{◌≡◌, ◌↔◌, IsTrue, length};
 ghost use Rattle.std.specs.List.{AllByRecursion};
-ghost use Rattle.mw_model.specs.Places.{IsWithin};
+ghost use Rattle.mw_model.specs.Rectangles.{IsWithin};
 ghost use Rattle.mw_model.specs.Tasks.{place_read};
 ghost use Rattle.mw_step_task.specs.Meanings.{meaning};
 ghost use Rattle.mw_step_task.specs.WindowTasks.{FitsStep, IsRead, KindsFit, SameKind, IsSetWindow, source_count};

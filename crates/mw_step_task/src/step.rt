@@ -44,6 +44,7 @@ impl Step {
     ghost use Rattle.std.specs.Prelude.{◌≡◌, ◌↔◌, IsTrue, IfOk};
     ghost use Rattle.mw_model.specs.Elements.{reach_of};
     ghost use Rattle.mw_model.specs.PlanSteps.{looks_at};
+    ghost use Rattle.mw_model.specs.Plans.{is_sum};
     ghost use Rattle.mw_step_task.specs.Meanings.{meaning};
     ghost use Rattle.mw_step_task.specs.WindowTasks.{source_count};
 
@@ -79,6 +80,13 @@ impl Step {
                 down: 0,
             },
         }
+    }
+
+    /// Whether the step makes a number.
+    pub fn is_sum(&self) -> bool
+        ensures { result ≡ is_sum (meaning self.now) }
+    {
+        matches!(self, Step::Sum)
     }
 
     /// Whether both steps mean the same: the same operation, offsets in the same order, and numbers.

@@ -1,25 +1,10 @@
 //! Tasks that are to be run.
 
-ghost use Rattle.std.specs.Prelude.{◌≡◌, IfOk};
-
 use crate::Step;
 use crate::reads::windows_fit;
-use mw_model::{NoMemory, Rect, TaskId};
+use mw_model::{Rect, TaskId};
 use mw_tile_pieces::SharedWindow;
-use mw_tile_pieces::tile::AnyWindow;
-use std::alloc::Global;
 use std::marker::Model;
-
-/// Windows, put together in order.
-fn assemble(alloc: Global, windows: &[SharedWindow]) -> Result<Vec<AnyWindow>, NoMemory>
-    ensures { IfOk result (λ v. v.items ≡ windows.now) }
-{
-    let mut joined = Vec::with_capacity(alloc, windows.len())?;
-    for window in windows {
-        joined.push(window.assemble(alloc)?)?;
-    }
-    Ok(joined)
-}
 
 /// A task with all that it reads: its step, its tile, and a window of each source. A window is held as the pieces of
 /// planes that it is made of, so that making a task copies no sample.
@@ -45,7 +30,7 @@ impl Model for Work {
 }
 
 impl Work {
-    ghost use Rattle.std.specs.Prelude.{◌≡◌, ◌↔◌, IsSome, IfOk, IfSome};
+    ghost use Rattle.std.specs.Prelude.{◌≡◌, ◌↔◌, IsSome, IfSome};
     ghost use Rattle.mw_step_task.specs.Meanings.{meaning};
     ghost use Rattle.mw_step_task.specs.WindowTasks.{FitsStep};
 
@@ -94,12 +79,5 @@ impl Work {
         ensures fits { FitsStep self.now.step self.now.rect self.now.windows }
     {
         &self.windows
-    }
-
-    /// The windows, put together.
-    pub fn assemble(&self, alloc: Global) -> Result<Vec<AnyWindow>, NoMemory>
-        ensures { IfOk result (λ v. v.items ≡ self.now.windows) }
-    {
-        assemble(alloc, &self.windows)
     }
 }

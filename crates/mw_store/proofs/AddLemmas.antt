@@ -13,7 +13,7 @@ use Rattle.mw_model.specs.declared.calls.Outcome.{Outcome}
 use Rattle.mw_model.specs.Values.{Value, tickets}
 use Rattle.mw_model.specs.Refusals.{submission_at, no_submission}
 use Rattle.mw_model.specs.Machine.{with_entry}
-use Rattle.mw_store.specs.Stored.{InputsBelow, Stored, IsWhole}
+use Rattle.mw_store.specs.Stored.{InputsBelow, Stored, StoreIsWhole}
 
 -- where no place is found, no element passes
 pub none-passes : {X : Type 0} → (p : X → Bool) (xs : List X) → position p xs ≡ None → All (λ x. p x ≡ false) xs
@@ -38,9 +38,9 @@ inputs-push es e h own t within =
           subst P (sym here) (subst Q (sym last) own)
     ]
 
-pub whole-push : (s : Stored) (n : Name) (e : Submission) (o : Outcome) (v : Option Value) → IsWhole s → length s.table.names < 65536
+pub whole-push : (s : Stored) (n : Name) (e : Submission) (o : Outcome) (v : Option Value) → StoreIsWhole s → length s.table.names < 65536
     → AllByRecursion (λ i. i < length s.table.names) (tickets e.inputs)
-    → IsWhole (record { table = with_entry s.table n e o; kept = s.kept ++ v ∷ [] })
+    → StoreIsWhole (record { table = with_entry s.table n e o; kept = s.kept ++ v ∷ [] })
 whole-push s n e o v whole room own =
     let Q : ℕ → Type 0 = λ k. AllByRecursion (λ i. i < k) (tickets e.inputs) in
     record {

@@ -4,6 +4,7 @@ pub mod PlaceLemmas
 -- the crate's own
 mod AddLemmas
 mod Counting
+mod Elements
 mod Living
 mod Tracking
 -- what lower crates offer

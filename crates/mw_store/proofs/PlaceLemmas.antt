@@ -1,6 +1,6 @@
 -- Rows of places.
 use Rattle.std.proofs.Common.{◌≡◌, ℕ, ◌≤◌, Result, Ok, Err, OnErr, subst, sym, ◌∙◌, arith}
-use Rattle.mw_store.specs.Places.{FillsRows, HasRow}
+use Rattle.mw_store.specs.RowRoom.{FillsRows, HasRow}
 
 -- more places are made
 pub row-more : (n c d : ℕ) → HasRow n c → c ≤ d → HasRow n d

@@ -20,13 +20,14 @@ use Rattle.mw_model.specs.Machine.{settled, cascaded, with_entry}
 use Rattle.mw_model.specs.Stands.{is_wanted}
 use Rattle.mw_store.specs.declared.kept.StoredValue.{StoredValue}
 use Rattle.mw_store.specs.Kept.{kept_value}
-use Rattle.mw_store.specs.Stored.{Stored, IsWhole, IsTracked, InputsBelow, DropsSpent, is_spent}
+use Rattle.mw_store.specs.Stored.{Stored, StoreIsWhole, IsTracked, InputsBelow, DropsSpent, KeepsElement, is_spent}
 use Rattle.mw_store.specs.Wanted.{one_if, is_among, is_at, waits_for, wanted_by, spent_by}
 use Rattle.mw_store.specs.Waiting.{Waiting, KnowsWaiting, no_waiting, waiting_at, entry_if, entry_for}
 use Rattle.mw_model.proofs.mw_facts.Alls.{all-append, all-weaker, all-append_left, all-append_right}
 use Rattle.mw_model.proofs.mw_facts.Counts.{count_by-most, count_by-same}
 use Rattle.mw_store.proofs.AddLemmas.{whole-push}
 use Rattle.mw_store.proofs.CascadeLemmas.{Fate, cascaded-fate, count-push, fate-pending}
+use Rattle.mw_store.proofs.Elements.{EndsOnce, KeepsFirst, elements-push, elements-stay, elements-valued, ends-pending, ends-released}
 use Rattle.mw_store.proofs.Living.{NoneAwaits, NoneDead, none-awaits-cascaded, none-awaits-push, none-awaits-set}
 use Rattle.mw_store.proofs.Counting.{count-more, count-change, count-any, zero-or-more}
 
@@ -289,10 +290,11 @@ tracked-lists s counts lists now left tracked size same = record {
   waiting = waiting-fewer s.table.submissions s.table.outcomes s.table.outcomes lists now tracked.waiting refl (λ u e. e) (λ t. inl (same t));
   spent = tracked.spent;
   alive = tracked.alive;
+  elements = tracked.elements;
 }
 
-pub whole-outcomes : (s : Stored) (os : List Outcome) (kept : List (Option Value)) → IsWhole s → length os ≡ length s.table.outcomes → length kept ≡ length s.kept
-    → IsWhole (record { table = record { names = s.table.names; submissions = s.table.submissions; outcomes = os }; kept = kept })
+pub whole-outcomes : (s : Stored) (os : List Outcome) (kept : List (Option Value)) → StoreIsWhole s → length os ≡ length s.table.outcomes → length kept ≡ length s.kept
+    → StoreIsWhole (record { table = record { names = s.table.names; submissions = s.table.submissions; outcomes = os }; kept = kept })
 whole-outcomes s os kept whole size kept-size = record {
   submissions = whole.submissions;
   outcomes = size ∙ whole.outcomes;
@@ -342,6 +344,7 @@ value-tracked s counts lists left t v tracked was = record {
         | inr there ↦ get_or-set_other s.kept t k v None there.1 ∙ tracked.spent k released none
       ];
   alive = tracked.alive;
+  elements = elements-valued s.table.submissions s.table.outcomes s.kept t (length s.table.names) v was tracked.elements;
 }
 
 -- what is looked at when an entry ends: its inputs alone
@@ -403,6 +406,7 @@ leave-tracked s counts now lists rest left t o kept tracked within was ended why
           ]);
       spent = none-spent w s.kept kept size drops;
       alive = none-awaits-set es os t (length s.table.names) o lt (sym tracked.whole.outcomes) ended why tracked.alive;
+      elements = elements-stay s.table (set os t o) s.kept kept (length s.table.names) (ends-pending os t o was) drops tracked.elements;
     }
   where
     pending-before : (os : List Outcome) (t u : ℕ) (o : Outcome) → t < length os → outcome_at os t ≡ outcome.Pending → is_pending (outcome_at (set os t o) u) ≡ true → is_pending (outcome_at os u) ≡ true
@@ -473,6 +477,7 @@ release-tracked s counts lists left t kept tracked within was kept-size drops =
       waiting = waiting-fewer es os (set os t outcome.Released) lists lists tracked.waiting size (λ u e. sym (same-pending os t u lt was) ∙ e) (λ k. inl refl);
       spent = none-spent w s.kept kept (size ∙ tracked.whole.outcomes) drops;
       alive = none-awaits-set es os t (length s.table.names) outcome.Released lt (sym tracked.whole.outcomes) refl (inl refl) tracked.alive;
+      elements = elements-stay s.table (set os t outcome.Released) s.kept kept (length s.table.names) (ends-released os t lt) drops tracked.elements;
     }
 
 -- ---- a death
@@ -501,6 +506,26 @@ pending-before-kill es os new t cause same lt dead is size u e =
 abbrev pub with_outcomes : Table → List Outcome → Table
 with_outcomes w os = record { names = w.names; submissions = w.submissions; outcomes = os }
 
+-- what ended before stays as it was
+ends-killed : (es : List Submission) (os new : List Outcome) (t : ℕ) (cause : Outcome) → length es ≡ length os → outcome_at os t ≡ outcome.Pending → new ≡ cascaded [] es (set os t cause) → length new ≡ length os → EndsOnce os new
+ends-killed es os new t cause same was is size = λ u ended.
+    elim (cases_lt u (length os)) [
+      | inl within ↦
+          let set-lt : u < length (set os t cause) = omega (arith, within, length-set os t cause) in
+          let fate : Fate (outcome_at (set os t cause) u) (outcome_at (cascaded [] es (set os t cause)) (0 + u)) = cascaded-fate [] es (set os t cause) u (same ∙ sym (length-set os t cause)) set-lt in
+          let there : outcome_at (cascaded [] es (set os t cause)) (0 + u) ≡ outcome_at new u = ap (λ (k : ℕ). outcome_at (cascaded [] es (set os t cause)) k) (zero-add u) ∙ ap (λ (xs : List Outcome). outcome_at xs u) (sym is) in
+          elim (eqb_tells u t) [
+            | inl self ↦ absurd (let lasts : is_pending (outcome_at os u) ≡ true = ap is_pending (ap (outcome_at os) self.1 ∙ was) in cc (lasts, ended))
+            | inr other ↦
+                let before : outcome_at (set os t cause) u ≡ outcome_at os u = get_or-set_other os t u cause outcome.Pending other.1 in
+                elim fate [
+                  | inl stays ↦ inl (sym there ∙ stays ∙ before)
+                  | inr died ↦ absurd (let lasts : is_pending (outcome_at os u) ≡ true = ap is_pending (sym before ∙ died.0) in cc (lasts, ended))
+                ]
+          ]
+      | inr past ↦ inl (get_or_past new u outcome.Pending (omega (arith, past, size)) ∙ sym (get_or_past os u outcome.Pending past))
+    ]
+
 pub kill-drops : (s : Stored) (new : List Outcome) (now : List ℕ) (kept : List (Option Value)) → length new ≡ length s.table.names
     → ((k : ℕ) → slice_index_or now k 0 ≡ wanted_by s.table.submissions new k)
     → ((k : ℕ) → value_at kept k ≡ (if spent_by new now k then None else value_at s.kept k))
@@ -509,14 +534,14 @@ kill-drops s new now kept size counted dropped k =
     dropped k ∙ ap (λ (b : Bool). if b then None else value_at s.kept k) (spent-tells (with_outcomes s.table new) now k size (counted k))
 
 pub kill-tracked : (s : Stored) (counts now : List ℕ) (lists rest : List Waiting) (left count t : ℕ) (cause : Outcome) (new : List Outcome) (kept : List (Option Value)) → IsTracked s counts lists left
-    → t < length s.table.names → is_pending cause ≡ false → new ≡ cascaded [] s.table.submissions (set s.table.outcomes t cause)
+    → t < length s.table.names → outcome_at s.table.outcomes t ≡ outcome.Pending → is_pending cause ≡ false → new ≡ cascaded [] s.table.submissions (set s.table.outcomes t cause)
     → length new ≡ length s.table.outcomes → length now ≡ length counts → length rest ≡ length lists → length kept ≡ length s.kept
     → ((k : ℕ) → slice_index_or now k 0 ≡ wanted_by s.table.submissions new k)
     → ((k : ℕ) → waiting_at rest k ≡ (if is_pending (outcome_at new k) then waiting_at lists k else []))
     → count ≡ count_by is_pending new
     → DropsSpent (with_outcomes s.table new) s.kept kept
     → IsTracked (record { table = with_outcomes s.table new; kept = kept }) now rest count
-kill-tracked s counts now lists rest left count t cause new kept tracked within dead is size counts-size lists-size kept-size counted each counts-is drops =
+kill-tracked s counts now lists rest left count t cause new kept tracked within was dead is size counts-size lists-size kept-size counted each counts-is drops =
     let os = s.table.outcomes in
     let es = s.table.submissions in
     let lt : t < length os = omega (arith, within, tracked.whole.outcomes) in
@@ -531,6 +556,7 @@ kill-tracked s counts now lists rest left count t cause new kept tracked within 
           (λ k. by-pending (is_pending (outcome_at new k)) (waiting_at lists k) (waiting_at rest k) (each k));
       spent = none-spent (with_outcomes s.table new) s.kept kept (size ∙ tracked.whole.outcomes) drops;
       alive = subst (λ (xs : List Outcome). NoneAwaits es xs (length s.table.names)) (sym is) (none-awaits-cascaded s.table t cause (tracked.whole.submissions ∙ sym tracked.whole.outcomes) tracked.whole.outcomes tracked.whole.inputs lt dead);
+      elements = elements-stay s.table new s.kept kept (length s.table.names) (ends-killed es os new t cause (tracked.whole.submissions ∙ sym tracked.whole.outcomes) was is size) drops tracked.elements;
     }
   where
     by-pending : (b : Bool) (old new : List ℕ) → new ≡ (if b then old else []) → (new ≡ old) ⊎ ((new ≡ []) × (b ≡ false))
@@ -555,14 +581,14 @@ not-released o zero e = e
 not-released o (suc j) e = refl
 
 pub push-tracked : (s : Stored) (counts now : List ℕ) (lists rest : List Waiting) (left count : ℕ) (n : Name) (e : Submission) (o : Outcome) (v : Option Value) (w : Waiting) (waited : Inputs) → IsTracked s counts lists left
-    → length s.table.names < 65536 → AllByRecursion (λ i. i < length s.table.names) (tickets e.inputs) → NoneDead s.table.outcomes (tickets e.inputs) → is_released o ≡ false → w.tickets ≡ []
+    → length s.table.names < 65536 → AllByRecursion (λ i. i < length s.table.names) (tickets e.inputs) → NoneDead s.table.outcomes (tickets e.inputs) → KeepsElement e o v → is_released o ≡ false → w.tickets ≡ []
     → length now ≡ length counts + 1 → length rest ≡ length lists + 1
     → ((k : ℕ) → slice_index_or now k 0 ≡ slice_index_or (counts ++ 0 ∷ []) k 0 + one_if (is_pending o && is_among e.inputs k))
     → ((k : ℕ) → is_among waited k ≡ (is_among e.inputs k && is_pending (outcome_at s.table.outcomes k)))
     → ((k : ℕ) → waiting_at rest k ≡ waiting_at (lists ++ w ∷ []) k ++ entry_for waited (length s.table.names) k)
     → count ≡ left + one_if (is_pending o)
     → IsTracked (record { table = with_entry s.table n e o; kept = s.kept ++ v ∷ [] }) now rest count
-push-tracked s counts now lists rest left count n e o v w waited tracked room own living stays none counts-size lists-size raised opens each count-is =
+push-tracked s counts now lists rest left count n e o v w waited tracked room own living keeps stays none counts-size lists-size raised opens each count-is =
     let os = s.table.outcomes in
     let es = s.table.submissions in
     let same : length es ≡ length os = tracked.whole.submissions ∙ sym tracked.whole.outcomes in
@@ -587,4 +613,6 @@ push-tracked s counts now lists rest left count n e o v w waited tracked room ow
                 absurd (cc (no, released))
           ];
       alive = subst (NoneAwaits (es ++ e ∷ []) (os ++ o ∷ [])) (sym (length-append s.table.names (n ∷ []))) (none-awaits-push es os e o (length s.table.names) same (sym tracked.whole.outcomes) tracked.whole.inputs own' living tracked.alive);
+      elements = subst (KeepsFirst (es ++ e ∷ []) (os ++ o ∷ []) (s.kept ++ v ∷ [])) (sym (length-append s.table.names (n ∷ [])))
+          (elements-push es os s.kept e o v (length s.table.names) tracked.whole.submissions tracked.whole.outcomes tracked.whole.kept keeps tracked.elements);
     }

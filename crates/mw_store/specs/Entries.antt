@@ -1,5 +1,5 @@
 -- What a new entry is in the table of the machine.
-use Rattle.std.specs.Prelude.{Option, Some, None}
+use Rattle.std.specs.Prelude.{◌≡◌, false, Option, Some, None}
 use Rattle.mw_model.specs.declared.operations.Op.{Op}
 use Rattle.mw_model.specs.declared.submissions.Command.{Command}
 use Rattle.mw_model.specs.declared.submissions.Command.TheVariants as command
@@ -8,6 +8,7 @@ use Rattle.mw_model.specs.declared.calls.Outcome.{Outcome}
 use Rattle.mw_model.specs.declared.calls.Outcome.TheVariants as outcome
 use Rattle.mw_model.specs.declared.calls.Given.TheVariants as given
 use Rattle.mw_model.specs.Values.{Value, ImageValue, ElementValue, shape_of_picture, shape_of_figure}
+use Rattle.mw_model.specs.Refusals.{is_element}
 use Rattle.mw_model.specs.Machine.{given_submission}
 use Rattle.mw_store.specs.declared.kept.Entry.{Entry}
 use Rattle.mw_store.specs.declared.kept.Entry.TheVariants as entry
@@ -29,6 +30,11 @@ abbrev pub payload_in : Entry → Option Value
 payload_in (entry.Image f) = Some (ImageValue f)
 payload_in (entry.Element b) = Some (ElementValue b)
 payload_in (entry.Run s) = None
+
+-- no RUN makes an element
+abbrev pub MakesNoElement : Entry → Type 0
+MakesNoElement (entry.Run s) = is_element s.shape ≡ false
+MakesNoElement e = Unit {0}
 
 -- the operation of a RUN
 abbrev pub op_of : Command → Option Op

@@ -1,10 +1,10 @@
 -- The values that a store keeps.
 use Rattle.std.specs.Prelude.{ℕ, List, Option, Some, None}
 use Rattle.std.specs.Arc.{arc_value}
-use Rattle.mw_model.specs.Elements.{Figure}
 use Rattle.mw_model.specs.Values.{Value, ImageValue, ElementValue, CurveValue}
 use Rattle.mw_store.specs.declared.kept.StoredValue.{StoredValue}
 use Rattle.mw_store.specs.declared.kept.StoredValue.TheVariants as kept
+pub use Rattle.mw_gran.specs.mw_plan.Tables.{figure_in}
 
 -- the value that is kept so
 abbrev pub kept_value : StoredValue → Value
@@ -16,11 +16,6 @@ kept_value (kept.Curve volumes) = CurveValue volumes
 -- the value that stands in the place of what is kept
 abbrev pub one_kept : StoredValue → Option Value
 one_kept k = Some (kept_value k)
-
--- the element in the place of a value, if one stands there
-abbrev pub figure_in : Option Value → Option Figure
-figure_in (Some (ElementValue b)) = Some b
-figure_in v = None
 
 -- the volumes of the curve in the place of a value, if one stands there
 abbrev pub curve_of : Option Value → Option (List ℕ)

@@ -5,7 +5,7 @@ pub mod ImageShapes
 pub mod Entries
 pub mod Wanted
 pub mod Waiting
-pub mod Places
+pub mod RowRoom
 pub mod Stored
 pub mod Fetches
 -- what lower crates offer

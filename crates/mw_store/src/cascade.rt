@@ -7,7 +7,6 @@ ghost use Rattle.mw_model.specs.Refusals.{is_dead, outcome_at};
 ghost use Rattle.mw_model.specs.Machine.{beside, cascaded};
 ghost use Rattle.mw_store.specs.Stored.{InputsBelow};
 
-use crate::outcomes::is_dead;
 use mw_model::{Inputs, Outcome, Submission};
 
 fn dead_one(outcomes: &[Outcome], input: Option<u32>) -> Option<u32>
@@ -16,7 +15,7 @@ fn dead_one(outcomes: &[Outcome], input: Option<u32>) -> Option<u32>
 {
     match input {
         Some(t) => {
-            if is_dead(outcomes[t as usize]) {
+            if outcomes[t as usize].is_dead() {
                 Some(t)
             } else {
                 None

@@ -6,9 +6,9 @@ ghost use Rattle.mw_model.specs.declared.limits.TheConstants.{ENTRY_LIMIT};
 use crate::cascade::fail_dependents;
 use crate::image_shapes::ImageShape;
 use crate::kept::{Entry, StoredValue};
-use crate::outcomes::{count_pending, is_dead, is_pending, is_there, one_if_pending};
-use crate::places::{reserve_name, reserve_row};
+use crate::outcomes::{count_pending, one_if_pending};
 use crate::plates::Plate;
+use crate::row_room::{reserve_name, reserve_row};
 use crate::spent::{drop_inputs, drop_one, drop_spent};
 use crate::waiting::{
     Waiters, WaitingList, drop_settled, pending_inputs, push_inputs, reserve_inputs,
@@ -43,7 +43,7 @@ impl Model for Store {
     ghost use Rattle.std.specs.Prelude.{map, option_map, length, ◌+◌, vec_capacity};
     ghost use Rattle.indexmap.specs.IndexSet.{spare};
     ghost use Rattle.mw_store.specs.Kept.{kept_value};
-    ghost use Rattle.mw_store.specs.Places.{HasRows};
+    ghost use Rattle.mw_store.specs.RowRoom.{HasRowOfEach};
     ghost use Rattle.mw_store.specs.Stored.{Stored, IsTracked};
 
     ghost Value = { Stored };
@@ -69,7 +69,7 @@ impl Model for Store {
         s.wanted.items
         s.waiting.items
         s.pending
-        × HasRows
+        × HasRowOfEach
         (length s.names.keys)
         (vec_capacity s.submissions)
         (vec_capacity s.outcomes)
@@ -88,13 +88,13 @@ impl Store {
     ghost use Rattle.mw_model.specs.Refusals.{is_dead, is_pending, is_released, is_there, ticket_of, outcome_at, submission_at, shape_at};
     ghost use Rattle.mw_model.specs.Machine.{killed, settled, with_entry};
     ghost use Rattle.mw_model.specs.Stands as stands;
-    ghost use Rattle.mw_model.specs.Places.{IsWithin};
+    ghost use Rattle.mw_model.specs.Rectangles.{IsWithin};
     ghost use Rattle.mw_tile_planes.specs.mw_tile.Windows.{window_of};
-    ghost use Rattle.mw_store.specs.Entries.{op_of, submission_of, outcome_of, payload_in};
+    ghost use Rattle.mw_store.specs.Entries.{MakesNoElement, op_of, submission_of, outcome_of, payload_in};
     ghost use Rattle.mw_store.specs.ImageShapes.{image_shape_of};
     ghost use Rattle.mw_store.specs.Kept.{kept_value, curve_of, figure_in};
-    ghost use Rattle.mw_store.specs.Places.{AwaitsInput, FillsRows, TakesMore};
-    ghost use Rattle.mw_store.specs.Stored.{IsWhole, DropsSpent};
+    ghost use Rattle.mw_store.specs.RowRoom.{AwaitsInput, FillsRows, TakesMore};
+    ghost use Rattle.mw_store.specs.Stored.{StoreIsWhole, DropsSpent, KeepsElement};
 
     /// An empty store with room for 16 entries.
     pub fn new(alloc: Global) -> Result<Self, NoMemory>
@@ -118,7 +118,7 @@ impl Store {
     /// How many entries there are.
     pub fn len(&self) -> u32
         ensures value { result ≡ length self.now.table.names }
-        ensures whole { IsWhole self.now }
+        ensures whole { StoreIsWhole self.now }
     {
         self.names.len() as u32
     }
@@ -127,7 +127,7 @@ impl Store {
     pub fn find(&self, name: Name) -> Option<u32>
         ensures value { result ≡ ticket_of self.now.table.names name }
         ensures within { IfSome result (λ t. t < length self.now.table.names) }
-        ensures whole { IsWhole self.now }
+        ensures whole { StoreIsWhole self.now }
     {
         match self.names.get_index_of(&name) {
             Some(i) => Some(i as u32),
@@ -174,7 +174,7 @@ impl Store {
     /// How many entries are pending.
     pub fn pending(&self) -> usize
         ensures value { result ≡ count_by is_pending self.now.table.outcomes }
-        ensures whole { IsWhole self.now }
+        ensures whole { StoreIsWhole self.now }
         ensures small { result ≤ ENTRY_LIMIT }
     {
         self.pending
@@ -264,12 +264,13 @@ impl Store {
         }
     }
 
-    /// The element that is kept of an entry.
+    /// The element that is kept of an entry. Of one that was added as an element it is there until it is released.
     pub fn element(&self, t: u32) -> Option<&Arc<Element>>
         requires { t < length self.now.table.names }
-        ensures { option_map (λ b. arc_value b.now) result ≡ figure_in (value_at self.now.kept t) }
+        ensures figure { option_map (λ b. arc_value b.now) result ≡ figure_in (value_at self.now.kept t) }
+        ensures kept { KeepsElement (submission_at self.now.table.submissions t) (outcome_at self.now.table.outcomes t) (value_at self.now.kept t) }
     {
-        match self.kept(t) {
+        match &self.kept[t as usize] {
             Some(StoredValue::Element(element)) => Some(element),
             _ => None,
         }
@@ -296,7 +297,7 @@ impl Store {
         ensures { result ≡ list_all (λ i. is_there (outcome_at self.now.table.outcomes i)) (option_list input) }
     {
         match input {
-            Some(t) => is_there(self.outcome(t)),
+            Some(t) => self.outcome(t).is_there(),
             None => true,
         }
     }
@@ -366,7 +367,7 @@ impl Store {
         ensures kept { DropsSpent self.new.table self.old.kept self.new.kept }
         ensures pending { count_by is_pending self.new.table.outcomes + 1 ≤ count_by is_pending self.old.table.outcomes }
     {
-        let (wanted, dies) = (self.is_wanted(t), is_dead(cause));
+        let (wanted, dies) = (self.is_wanted(t), cause.is_dead());
         if wanted || !dies {
             self.cascade(t, cause);
         } else {
@@ -415,6 +416,7 @@ impl Store {
         requires below { AllByRecursion (λ i. i < length self.old.table.names) (tickets submission.inputs) }
         requires alive { AllByRecursion (λ i. is_dead (outcome_at self.old.table.outcomes i) ≡ false) (tickets submission.inputs) }
         requires kept { is_released outcome ≡ false }
+        requires element { KeepsElement submission outcome (option_map kept_value value) }
         ensures ticket { IfOk result (λ t. t ≡ length self.old.table.names) }
         ensures table { OnOk result (self.new.table ≡ with_entry self.old.table name submission outcome) }
         ensures kept { OnOk result (self.new.kept ≡ self.old.kept ++ option_map kept_value value ∷ []) }
@@ -438,7 +440,7 @@ impl Store {
         self.kept.push_reserved(value);
         self.wanted.push_reserved(0);
         self.waiting.push_reserved(WaitingList::none(self.alloc));
-        raise_inputs(is_pending(outcome), &mut self.wanted, submission.inputs);
+        raise_inputs(outcome.is_pending(), &mut self.wanted, submission.inputs);
         push_inputs(&mut self.waiting, t, waited);
         self.pending += one_if_pending(outcome);
         Ok(t)
@@ -451,6 +453,7 @@ impl Store {
         requires room { length self.old.table.names < ENTRY_LIMIT }
         requires below { AllByRecursion (λ i. i < length self.old.table.names) (tickets (submission_of entry).inputs) }
         requires alive { AllByRecursion (λ i. is_dead (outcome_at self.old.table.outcomes i) ≡ false) (tickets (submission_of entry).inputs) }
+        requires made { MakesNoElement entry }
         ensures ticket { IfOk result (λ t. t ≡ length self.old.table.names) }
         ensures table { OnOk result (self.new.table ≡ with_entry self.old.table name (submission_of entry) (outcome_of entry)) }
         ensures kept { OnOk result (self.new.kept ≡ self.old.kept ++ payload_in entry ∷ []) }

@@ -23,8 +23,9 @@ mod fetched;
 mod image_shapes;
 mod kept;
 mod outcomes;
-mod places;
 mod plates;
+mod row_room;
+mod runs;
 mod spent;
 mod waiting;
 mod wanted;
@@ -34,9 +35,9 @@ pub use fetched::{Fetched, FetchedValue};
 pub use image_shapes::ImageShape;
 pub use kept::{Entry, StoredValue};
 pub use mw_model::NoMemory;
-pub use outcomes::{is_dead, is_done, is_pending, is_released, is_there};
-pub use places::reserve_row;
 pub use plates::{Plate, PlateView};
+pub use row_room::reserve_row;
+pub use runs::ResolvedRun;
 pub use waiting::Waiters;
 
 // What lower crates offer, for the crates above.
@@ -45,7 +46,7 @@ pub mod element {
 }
 
 pub mod gran {
-    pub use mw_gran::{Curve, plan_of};
+    pub use mw_gran::{Curve, plan_of_any};
 }
 
 pub mod pixel {
@@ -53,7 +54,7 @@ pub mod pixel {
 }
 
 pub mod plan {
-    pub use mw_gran::plan::{Input, Plan, PlanFault, Source, Sources, plan_of};
+    pub use mw_gran::plan::{Input, Plan, PlanFault, Source, Sources};
 }
 
 pub mod task {

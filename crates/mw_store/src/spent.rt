@@ -6,7 +6,6 @@ ghost use Rattle.mw_model.specs.Values.{option_list};
 ghost use Rattle.mw_store.specs.Wanted.{is_among, is_at, spent_by};
 
 use crate::kept::StoredValue;
-use crate::outcomes::is_released;
 use mw_model::{Inputs, Outcome};
 
 /// Drops what stands in a place.
@@ -29,7 +28,7 @@ pub fn drop_one(
     ensures { (t : ℕ) → slice_index_or kept.new t None ≡ (if is_at input t && spent_by outcomes.now wanted.now t then None else slice_index_or kept.old t None) }
 {
     if let Some(t) = input {
-        if is_released(outcomes[t as usize]) && wanted[t as usize] == 0 {
+        if outcomes[t as usize].is_released() && wanted[t as usize] == 0 {
             clear(&mut kept[t as usize]);
         }
     }
@@ -61,7 +60,7 @@ pub fn drop_spent(outcomes: &[Outcome], wanted: &[u32], kept: &mut [Option<Store
     ensures { (t : ℕ) → slice_index_or kept.new t None ≡ (if spent_by outcomes.now wanted.now t then None else slice_index_or kept.old t None) }
 {
     for (t, outcome) in outcomes.iter().enumerate() {
-        if is_released(*outcome) && wanted[t] == 0 {
+        if outcome.is_released() && wanted[t] == 0 {
             clear(&mut kept[t]);
         }
     }

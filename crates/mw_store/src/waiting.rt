@@ -7,7 +7,6 @@ ghost use Rattle.mw_model.specs.Refusals as words;
 ghost use Rattle.mw_store.specs.Wanted.{is_among, is_at};
 ghost use Rattle.mw_store.specs.Waiting.{entry_for, entry_if, room_at, waiting_at};
 
-use crate::outcomes::is_pending;
 use mw_model::{Inputs, NoMemory, Outcome};
 use std::alloc::Global;
 use std::marker::Model;
@@ -99,7 +98,7 @@ fn pending_input(outcomes: &[Outcome], input: Option<u32>) -> Option<u32>
 {
     match input {
         Some(t) => {
-            if is_pending(outcomes[t as usize]) {
+            if outcomes[t as usize].is_pending() {
                 Some(t)
             } else {
                 None
@@ -190,7 +189,7 @@ pub(crate) fn drop_settled(alloc: Global, outcomes: &[Outcome], waiting: &mut [W
     ensures { (t : ℕ) → waiting_at waiting.new t ≡ (if words.is_pending (words.outcome_at outcomes.now t) then waiting_at waiting.old t else []) }
 {
     for (t, outcome) in outcomes.iter().enumerate() {
-        if !is_pending(*outcome) {
+        if !outcome.is_pending() {
             waiting[t] = WaitingList::none(alloc);
         }
     }

@@ -7,7 +7,6 @@ ghost use Rattle.mw_model.specs.Values.{option_list};
 ghost use Rattle.mw_store.specs.Stored.{InputsBelow};
 ghost use Rattle.mw_store.specs.Wanted.{is_among, is_at, one_if, wanted_by};
 
-use crate::outcomes::is_pending;
 use mw_model::{Inputs, Outcome, Submission};
 
 /// Whether two inputs are the same ticket.
@@ -91,6 +90,6 @@ pub fn count_wanted(submissions: &[Submission], outcomes: &[Outcome], wanted: &m
 {
     wanted.fill(0);
     for (u, submission) in submissions.iter().enumerate() {
-        raise_inputs(is_pending(outcomes[u]), wanted, submission.inputs);
+        raise_inputs(outcomes[u].is_pending(), wanted, submission.inputs);
     }
 }

@@ -4,8 +4,8 @@ use Rattle.std.proofs.lemmas.Bool.{cases_lt}
 use Rattle.std.proofs.Math.Nat.{mul-le-mul_left}
 use Rattle.std.proofs.lemmas.Nat.{mul-add-lt, div-mul-add, mod-mul-add}
 use Rattle.mw_model.proofs.mw_facts.Elements.{slice_get-drop, slice_get-take, slice_get-put_below, slice_get-put_within, slice_get-put_above}
-use Rattle.mw_model.specs.declared.places.Rect.{Rect}
-use Rattle.mw_model.specs.Places.{Holds, IsWithin}
+use Rattle.mw_model.specs.declared.offsets.Rect.{Rect}
+use Rattle.mw_model.specs.Rectangles.{Holds, IsWithin}
 use Rattle.mw_model.specs.Rasters.{Raster, raster}
 use Rattle.mw_pixel.specs.mw_pixel_words.Runs.{put_at, HasFront}
 use Rattle.mw_pixel.proofs.mw_pixel_words.Fronts.{front_more}
@@ -169,7 +169,7 @@ pasted_next y old now part out row r out-is size within lt len row-is before =
       outside = rows.outside;
     }
 
--- the same where the row is a run of the part
+-- one more row is pasted, where it is a run of the part
 pub pasted_run : {A : Type 0} (y : ℕ) (old now part out : Raster A) (r : Rect)
     → out ≡ raster now.width now.height (put_at ((r.y + y) * now.width + r.x) (slice_range part.cells (y * part.width + 0) (y * part.width + 0 + r.width)) now.cells)
     → length old.cells ≡ old.height * old.width → length part.cells ≡ part.height * part.width → part.width ≡ r.width → part.height ≡ r.height → IsWithin r old.width old.height → y < r.height

@@ -23,13 +23,13 @@ window_held (Grey8 w maxval) = grey_window w maxval
 window_held (Grey16 w maxval) = grey_window w maxval
 
 -- the maxval is one of this size of samples: up to 255 in one byte, and else in two
-abbrev pub IsHeld : Samples → Type 0
-IsHeld (Bits w) = Unit {0}
-IsHeld (Grey8 w maxval) = (1 ≤ maxval) × (maxval ≤ 255)
-IsHeld (Grey16 w maxval) = 256 ≤ maxval
+abbrev pub WindowIsHeld : Samples → Type 0
+WindowIsHeld (Bits w) = Unit {0}
+WindowIsHeld (Grey8 w maxval) = (1 ≤ maxval) × (maxval ≤ 255)
+WindowIsHeld (Grey16 w maxval) = 256 ≤ maxval
 
 -- what is looked at is this window
-abbrev pub Shows : SourceWindow → WindowView → Type 0
-Shows s (view.Bits w) = s ≡ set_window w.now
-Shows s (view.Grey8 w maxval) = (s ≡ grey_window w.now maxval) × (1 ≤ maxval) × (maxval ≤ 255)
-Shows s (view.Grey16 w maxval) = (s ≡ grey_window w.now maxval) × (256 ≤ maxval)
+abbrev pub ShowsWindow : SourceWindow → WindowView → Type 0
+ShowsWindow s (view.Bits w) = s ≡ set_window w.now
+ShowsWindow s (view.Grey8 w maxval) = (s ≡ grey_window w.now maxval) × (1 ≤ maxval) × (maxval ≤ 255)
+ShowsWindow s (view.Grey16 w maxval) = (s ≡ grey_window w.now maxval) × (256 ≤ maxval)

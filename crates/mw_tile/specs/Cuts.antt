@@ -1,7 +1,7 @@
 -- Samples of a rectangle of a frame.
 use Rattle.std.specs.Prelude.{◌≡◌, ℕ, ◌+◌, ◌*◌, ◌<◌, List, length, slice_get}
-use Rattle.mw_model.specs.declared.places.Rect.{Rect}
-use Rattle.mw_model.specs.Places.{Holds}
+use Rattle.mw_model.specs.declared.offsets.Rect.{Rect}
+use Rattle.mw_model.specs.Rectangles.{Holds}
 use Rattle.mw_model.specs.Rasters.{Raster}
 use Rattle.mw_model.specs.Windows.{View}
 use Rattle.mw_grid.specs.Rectangles.{whole_frame}

@@ -1,15 +1,15 @@
 -- Windows of a frame: what they have of it, and the samples of a source in one (own).
 use Rattle.std.specs.Prelude.{◌≡◌, ℕ, ◌+◌, ◌*◌, ◌<◌, List, [], length, slice_get}
-use Rattle.mw_model.specs.declared.places.Offset.{Offset}
-use Rattle.mw_model.specs.declared.places.Rect.{Rect}
+use Rattle.mw_model.specs.declared.offsets.Offset.{Offset}
+use Rattle.mw_model.specs.declared.offsets.Rect.{Rect}
 use Rattle.mw_model.specs.declared.shapes.Kind.{Kind}
 use Rattle.mw_model.specs.declared.shapes.Kind.TheVariants as kind
-use Rattle.mw_model.specs.Places.{rect, IsWithin}
+use Rattle.mw_model.specs.Rectangles.{rect, IsWithin}
 use Rattle.mw_model.specs.Rasters.{Raster}
 use Rattle.mw_model.specs.Pictures.{Picture, sample}
 use Rattle.mw_model.specs.Windows.{View}
 use Rattle.mw_model.specs.Tasks.{cells_in}
-use Rattle.mw_grid.specs.Rectangles.{ReachesAll}
+use Rattle.mw_grid.specs.Rectangles.{ReachesAll, whole_frame}
 
 -- the view has the cells that the frame has there
 pub record IsCut {A : Type 0} (w : View A) (f : Raster A) : Type 0 where
@@ -42,3 +42,7 @@ window_of place f = record {
   maxval = f.maxval;
   view = record { frame_width = f.width; frame_height = f.height; place = place; cells = cells_in place (sample f) };
 }
+
+-- the window that has the whole of an image
+abbrev pub whole_window : Picture → SourceWindow
+whole_window f = window_of (whole_frame f.width f.height) f

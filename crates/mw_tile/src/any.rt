@@ -41,16 +41,16 @@ impl Model for AnyWindow {
 
     ghost Value = { SourceWindow };
 
-    ghost use Rattle.mw_tile.specs.AnyWindows.{window_held, IsHeld};
+    ghost use Rattle.mw_tile.specs.AnyWindows.{window_held, WindowIsHeld};
 
     ghost view = { λ a. window_held a.content };
 
-    ghost invariant = { λ a. IsHeld a.content };
+    ghost invariant = { λ a. WindowIsHeld a.content };
 }
 
 impl AnyWindow {
     ghost use Rattle.std.specs.Prelude.{◌≡◌, ◌↔◌, ◌≤◌, IsTrue};
-    ghost use Rattle.mw_tile.specs.AnyWindows.{set_window, grey_window, Shows};
+    ghost use Rattle.mw_tile.specs.AnyWindows.{set_window, grey_window, ShowsWindow};
 
     /// The window of a set.
     pub fn bits(window: Window<Bit>) -> AnyWindow
@@ -83,7 +83,7 @@ impl AnyWindow {
 
     /// What is inside, to be looked at.
     pub fn view(&self) -> WindowView<'_>
-        ensures { Shows self.now result }
+        ensures { ShowsWindow self.now result }
     {
         match &self.content {
             Samples::Bits(w) => WindowView::Bits(w),

@@ -2,7 +2,7 @@
 //! what a copy of the samples does.
 
 ghost use Rattle.std.specs.Prelude.{◌≡◌, ◌+◌, ◌*◌, ◌<◌, ◌≤◌, IfOk};
-ghost use Rattle.mw_model.specs.Places.{IsWithin};
+ghost use Rattle.mw_model.specs.Rectangles.{IsWithin};
 ghost use Rattle.mw_tile.specs.Windows.{IsCut};
 ghost use Rattle.mw_tile.specs.Cuts.{stood_at, Pastes};
 

@@ -1,8 +1,8 @@
 //! What windows are for.
 
 ghost use Rattle.std.specs.Prelude.{◌≡◌, ℕ, ◌+◌, ◌<◌};
-ghost use Rattle.mw_model.specs.declared.places.Rect.{Rect};
-ghost use Rattle.mw_model.specs.Places.{grown, WithinReach};
+ghost use Rattle.mw_model.specs.declared.offsets.Rect.{Rect};
+ghost use Rattle.mw_model.specs.Rectangles.{grown, WithinReach};
 ghost use Rattle.mw_tile.specs.Windows.{IsCut, IsWindow};
 ghost use Rattle.mw_grid.specs.Grids.{tile_at};
 ghost use Rattle.mw_model.specs.Pictures.{Picture, IsPicture};

@@ -2,7 +2,7 @@
 
 ghost use Rattle.std.specs.Prelude.{◌≡◌, ◌↔◌, ◌+◌, ◌*◌, ◌<◌, ◌≤◌, IsTrue, length, slice_range, IfOk};
 ghost use Rattle.std.specs.Arc.{arc_value};
-ghost use Rattle.mw_model.specs.Places.{IsWithin};
+ghost use Rattle.mw_model.specs.Rectangles.{IsWithin};
 ghost use Rattle.mw_tile.specs.Windows.{IsCut};
 ghost use Rattle.mw_tile.specs.Cuts.{stood_at, view_of, whole_of};
 
@@ -25,7 +25,7 @@ pub struct Window<P: Planar> {
 
 impl<P: Planar> Model for Window<P> {
     ghost use Rattle.std.specs.Prelude.{◌≡◌};
-    ghost use Rattle.mw_model.specs.Places.{IsWithin};
+    ghost use Rattle.mw_model.specs.Rectangles.{IsWithin};
     ghost use Rattle.mw_model.specs.Windows.{View};
     ghost use Rattle.mw_tile.specs.Cuts.{view_of};
 

@@ -8,8 +8,8 @@ use Rattle.std.proofs.lemmas.Nat.{mul-add-lt}
 use Rattle.std.proofs.lemmas.Nat.Bits.{bit_at-zero}
 use Rattle.std.proofs.lemmas.Option.{slice_get-get_or, slice_get_past}
 use Rattle.mw_model.proofs.mw_facts.Alls.{all-both, all-get_or, all-take, all-take_whole}
-use Rattle.mw_model.specs.declared.places.Rect.{Rect}
-use Rattle.mw_model.specs.Places.{Holds}
+use Rattle.mw_model.specs.declared.offsets.Rect.{Rect}
+use Rattle.mw_model.specs.Rectangles.{Holds}
 use Rattle.mw_model.specs.Rasters.{Raster, raster}
 use Rattle.mw_tile.specs.mw_pixel_words.Packed.{bit_of, samples_of, stride_of, IsPacked}
 use Rattle.mw_tile.proofs.mw_pixel_words.Bits.{length-samples_of, sample_is_bit}
@@ -17,13 +17,13 @@ use Rattle.mw_tile.proofs.mw_pixel_words.Done.{blank_bit}
 use Rattle.mw_tile_pieces.specs.Patches.{Joint, Patch, cell_of, has_place, no_patch, patch, patch_at, value_in, HasValues, IsJoint, ShowsIn}
 use Rattle.mw_tile_pieces.proofs.Patches.{all_next, has_holds, has_yes, read_at, values_of_shows}
 use Rattle.mw_tile_pieces.specs.declared.blocks.Block.{Block}
-use Rattle.mw_tile_pieces.specs.Blocks.{Fits, IsApart, IsCommon, IsPasted, IsRun}
+use Rattle.mw_tile_pieces.specs.Blocks.{AreApart, BlockFits, CopiesRun, IsCommon, IsPasted}
 use Rattle.mw_tile_pieces.specs.Laid.{IsLaid}
 use Rattle.mw_tile_pieces.proofs.Pasted.{common_fits, common_shown, IsShown}
 
 -- ---- one sample
 
-pub sample_run : {A : Type 0} (xs from : List A) (k m : ℕ) (v : A) → k < length xs → m < length from → v ≡ get_or from m v → IsRun (slice_get xs) (slice_get (set xs k v)) (slice_get from) k m 1
+pub sample_run : {A : Type 0} (xs from : List A) (k m : ℕ) (v : A) → k < length xs → m < length from → v ≡ get_or from m v → CopiesRun (slice_get xs) (slice_get (set xs k v)) (slice_get from) k m 1
 sample_run xs from k m v lt less v-is = record {
   copied = λ i one.
       let k-is : k + i ≡ k = omega arith in
@@ -57,7 +57,7 @@ column_in r x y holds = let left = holds.left in let right = holds.right in omeg
 row_in : (r : Rect) (x y : ℕ) → Holds r x y → y - r.y < r.height
 row_in r x y holds = let top = holds.top in let bottom = holds.bottom in omega arith
 
-pub laid_apart : {A : Type 0} (r : Rect) (p : Patch A) (cells : List A) → IsApart r p.place → IsLaid r p cells cells
+pub laid_apart : {A : Type 0} (r : Rect) (p : Patch A) (cells : List A) → AreApart r p.place → IsLaid r p cells cells
 laid_apart r p cells apart = record { size = refl; shows = λ x y holds here. absurd (apart x y holds here); rest = λ x y holds none. refl }
 
 pub laid_samples : {A : Type 0} (r : Rect) (p : Patch A) (old new : List A) → length new ≡ length old → IsShown r p.place r.width p.place.width (slice_get old) (slice_get new) (slice_get p.cells) → IsLaid r p old new
@@ -102,9 +102,9 @@ laid_packed r h own old new from size packed shown = record {
 common_samples : {A : Type 0} (r held : Rect) (p : Patch A) (b : Block) → held ≡ p.place → IsCommon r held r.width held.width b → IsCommon r p.place r.width p.place.width b
 common_samples r held p b held-is common = subst (λ (q : Rect). IsCommon r q r.width q.width b) held-is common
 
-pub samples_fit : {A : Type 0} (r held : Rect) (p : Patch A) (b : Block) (n m : ℕ) → held ≡ p.place → IsCommon r held r.width held.width b → n ≡ r.height * r.width → m ≡ p.place.height * p.place.width → Fits b n m
+pub samples_fit : {A : Type 0} (r held : Rect) (p : Patch A) (b : Block) (n m : ℕ) → held ≡ p.place → IsCommon r held r.width held.width b → n ≡ r.height * r.width → m ≡ p.place.height * p.place.width → BlockFits b n m
 samples_fit r held p b n m held-is common n-is m-is =
-    subst (λ (t : ℕ). Fits b t m) (sym n-is) (subst (Fits b (r.height * r.width)) (sym m-is) (common_fits r p.place r.width p.place.width b (omega arith) (omega arith) (common_samples r held p b held-is common)))
+    subst (λ (t : ℕ). BlockFits b t m) (sym n-is) (subst (BlockFits b (r.height * r.width)) (sym m-is) (common_fits r p.place r.width p.place.width b (omega arith) (omega arith) (common_samples r held p b held-is common)))
 
 pub samples_laid : {A : Type 0} (r held : Rect) (p : Patch A) (b : Block) (old new from : List A) → held ≡ p.place → IsCommon r held r.width held.width b → from ≡ p.cells → length new ≡ length old → IsPasted b (slice_get old) (slice_get new) (slice_get from)
     → IsLaid r p old new
@@ -113,8 +113,8 @@ samples_laid {A} r held p b old new from held-is common from-is size pasted =
     (common_shown r p.place r.width p.place.width b (slice_get old) (slice_get new) (slice_get p.cells) (omega arith) (common_samples r held p b held-is common)
     (subst (λ (t : List A). IsPasted b (slice_get old) (slice_get new) (slice_get t)) from-is pasted))
 
-pub apart_laid : {A : Type 0} (r held : Rect) (p : Patch A) (cells : List A) → held ≡ p.place → IsApart r held → IsLaid r p cells cells
-apart_laid r held p cells held-is apart = laid_apart r p cells (subst (IsApart r) held-is apart)
+pub apart_laid : {A : Type 0} (r held : Rect) (p : Patch A) (cells : List A) → held ≡ p.place → AreApart r held → IsLaid r p cells cells
+apart_laid r held p cells held-is apart = laid_apart r p cells (subst (AreApart r) held-is apart)
 
 -- the words of the plane of a piece
 pub record IsWordsOf (p : Patch ℕ) (words : List ℕ) : Type 0 where
@@ -133,14 +133,14 @@ common_bits : (r held : Rect) (p : Patch ℕ) (b : Block) → held ≡ p.place �
 common_bits r held p b held-is common = subst (λ (q : Rect). IsCommon r q (64 * stride_of r.width) (64 * stride_of q.width) b) held-is common
 
 -- the block in the words of the piece and in those of a window
-pub bits_fit_in : (r held : Rect) (p : Patch ℕ) (b : Block) (n : ℕ) (from : List ℕ) → held ≡ p.place → IsCommon r held (64 * stride_of r.width) (64 * stride_of held.width) b → r.height * (64 * stride_of r.width) ≡ n → IsWordsOf p from → Fits b n (64 * length from)
+pub bits_fit_in : (r held : Rect) (p : Patch ℕ) (b : Block) (n : ℕ) (from : List ℕ) → held ≡ p.place → IsCommon r held (64 * stride_of r.width) (64 * stride_of held.width) b → r.height * (64 * stride_of r.width) ≡ n → IsWordsOf p from → BlockFits b n (64 * length from)
 bits_fit_in r held p b n from held-is common n-is words =
     let from-size : p.place.height * (64 * stride_of p.place.width) ≡ 64 * length from = let size = words.size in omega arith in
-    subst (λ (m : ℕ). Fits b m (64 * length from)) n-is
-    (subst (Fits b (r.height * (64 * stride_of r.width))) from-size
+    subst (λ (m : ℕ). BlockFits b m (64 * length from)) n-is
+    (subst (BlockFits b (r.height * (64 * stride_of r.width))) from-size
     (common_fits r p.place (64 * stride_of r.width) (64 * stride_of p.place.width) b (omega arith) (omega arith) (common_bits r held p b held-is common)))
 
-pub bits_fit : (r held : Rect) (p : Patch ℕ) (b : Block) (old from : List ℕ) → held ≡ p.place → IsCommon r held (64 * stride_of r.width) (64 * stride_of held.width) b → IsPacked r.width r.height old → IsWordsOf p from → Fits b (64 * length old) (64 * length from)
+pub bits_fit : (r held : Rect) (p : Patch ℕ) (b : Block) (old from : List ℕ) → held ≡ p.place → IsCommon r held (64 * stride_of r.width) (64 * stride_of held.width) b → IsPacked r.width r.height old → IsWordsOf p from → BlockFits b (64 * length old) (64 * length from)
 bits_fit r held p b old from held-is common packed words = bits_fit_in r held p b (64 * length old) from held-is common (let size = packed.size in omega arith) words
 
 pub bits_shown : (r held : Rect) (p : Patch ℕ) (b : Block) (old new from : ℕ → ℕ) → held ≡ p.place → IsCommon r held (64 * stride_of r.width) (64 * stride_of held.width) b → IsPasted b old new from → IsShown r p.place (64 * stride_of r.width) (64 * stride_of p.place.width) old new from

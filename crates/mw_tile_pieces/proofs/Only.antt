@@ -8,7 +8,7 @@ use Rattle.std.proofs.lemmas.Nat.{mul-add-lt, shr-shr}
 use Rattle.std.proofs.lemmas.Nat.Bits.{bit_at_or, bit_at_xor, bit_at-lt, bit_at-zero}
 use Rattle.std.proofs.lemmas.Option.{slice_get-get_or}
 use Rattle.mw_model.proofs.mw_facts.Elements.{get_or-replicate_same}
-use Rattle.mw_model.specs.declared.places.Rect.{Rect}
+use Rattle.mw_model.specs.declared.offsets.Rect.{Rect}
 use Rattle.mw_tile.specs.mw_pixel_words.Packed.{bit_of, stride_of}
 use Rattle.mw_tile.proofs.mw_pixel_words.Bits.{bit_of_word}
 use Rattle.mw_tile.proofs.mw_pixel_words.Funnels.{shl_high}

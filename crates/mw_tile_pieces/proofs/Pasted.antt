@@ -2,12 +2,12 @@
 use Rattle.std.proofs.Common.{◌≡◌, ◌⊎◌, ℕ, ◌+◌, ◌-◌, ◌*◌, ◌/◌, ◌%◌, ◌<◌, ◌≤◌, ap, sym, refl, arith, ◌∙◌, inl, inr, subst}
 use Rattle.std.proofs.lemmas.Bool.{cases_lt}
 use Rattle.std.proofs.lemmas.Nat.{mul-add-lt, div-mul-add, mod-mul-add}
-use Rattle.mw_model.specs.declared.places.Rect.{Rect}
-use Rattle.mw_model.specs.Places.{Holds}
+use Rattle.mw_model.specs.declared.offsets.Rect.{Rect}
+use Rattle.mw_model.specs.Rectangles.{Holds}
 use Rattle.mw_tile.proofs.Rows.{run_fits}
 use Rattle.mw_tile_pieces.specs.Patches.{overlap_of}
 use Rattle.mw_tile_pieces.specs.declared.blocks.Block.{Block}
-use Rattle.mw_tile_pieces.specs.Blocks.{block, block_at, Fits, IsCommon, IsPasted, IsRun}
+use Rattle.mw_tile_pieces.specs.Blocks.{block, block_at, BlockFits, IsCommon, IsPasted, CopiesRun}
 
 -- a place has one row and one column
 same_row : (w j i q c : ℕ) → i < w → c < w → j * w + i ≡ q * w + c → j ≡ q
@@ -28,7 +28,7 @@ upper b n = block b.start b.wide b.first b.own b.width n
 pub pasted_no_row : {B : Type 0} (b : Block) (old from : ℕ → B) → IsPasted (upper b 0) old old from
 pasted_no_row b old from = record { inside = λ i j lt less. absurd (omega arith); outside = λ p none. refl }
 
-pub pasted_down : {B : Type 0} (b : Block) (n : ℕ) (old now next from : ℕ → B) → b.width ≤ b.wide → IsRun now next from (b.start + n * b.wide) (b.first + n * b.own) b.width → IsPasted (upper b n) old now from → IsPasted (upper b (n + 1)) old next from
+pub pasted_down : {B : Type 0} (b : Block) (n : ℕ) (old now next from : ℕ → B) → b.width ≤ b.wide → CopiesRun now next from (b.start + n * b.wide) (b.first + n * b.own) b.width → IsPasted (upper b n) old now from → IsPasted (upper b (n + 1)) old next from
 pasted_down b n old now next from fits run before = record {
   inside = λ i j lt less. elim (cases_lt j n) [
     | inl earlier ↦
@@ -93,7 +93,7 @@ pasted_right b n m old now next from fits part before = record {
     shift : (a n b k : ℕ) → a + (b + (n + k)) ≡ a + n + (b + k)
     shift a n b k = omega arith
 
-pub fits_column : (b : Block) (n m k l : ℕ) → n + m ≤ b.width → Fits b k l → Fits (columns b n m) k l
+pub fits_column : (b : Block) (n m k l : ℕ) → n + m ≤ b.width → BlockFits b k l → BlockFits (columns b n m) k l
 fits_column b n m k l le fits =
     let across = fits.across in
     record {
@@ -131,13 +131,13 @@ block_room a j h x w wide lt across = omega (arith, run_fits (a + j) h wide x w 
 at_place : (a j w x i q c : ℕ) → a + j ≡ q → x + i ≡ c → a * w + x + (j * w + i) ≡ q * w + c
 at_place a j w x i q c q-is c-is = omega (arith, spread a j w, ap (λ (t : ℕ). t * w) q-is)
 
-pub common_fits : (r h : Rect) (wide own : ℕ) (b : Block) → r.width ≤ wide → h.width ≤ own → IsCommon r h wide own b → Fits b (r.height * wide) (h.height * own)
+pub common_fits : (r h : Rect) (wide own : ℕ) (b : Block) → r.width ≤ wide → h.width ≤ own → IsCommon r h wide own b → BlockFits b (r.height * wide) (h.height * own)
 common_fits r h wide own b r-le h-le common =
     let o = overlap_of r h in
     let b-is = common.is in
     let width-is : b.width ≡ o.width = ap (λ (t : Block). t.width) b-is in
     let some = common.some in
-    subst (λ (t : Block). Fits t (r.height * wide) (h.height * own)) (sym b-is)
+    subst (λ (t : Block). BlockFits t (r.height * wide) (h.height * own)) (sym b-is)
     (record {
       across = omega arith;
       room = λ j less. block_room (o.y - r.y) j r.height (o.x - r.x) o.width wide (omega arith) (omega arith);

@@ -1,21 +1,19 @@
 -- Windows in pieces: what they show, and how they are put together and compared.
-use Rattle.std.proofs.Common.{◌≡◌, ℕ, ◌+◌, ◌-◌, ◌*◌, ◌%◌, ◌<◌, ◌≤◌, Bool, true, false, ◌||◌, cond, List, [], ◌∷◌, ◌++◌, length, get_or, slice_get, slice_range, take, Option, Some, refl, sym, ap, subst, arith, rules, ◌∙◌, inl, inr}
+use Rattle.std.proofs.Common.{◌≡◌, ℕ, ◌+◌, ◌-◌, ◌*◌, ◌<◌, ◌≤◌, Bool, true, false, ◌||◌, cond, List, [], ◌∷◌, ◌++◌, length, get_or, slice_get, slice_range, take, Option, Some, refl, sym, ap, subst, arith, rules, ◌∙◌, inl, inr}
 use Rattle.std.specs.List.{AllByRecursion}
 use Rattle.std.proofs.lemmas.Bool.{cases_lt}
-use Rattle.std.proofs.lemmas.Nat.{mul-add-lt, div-mul-add, mod-mul-add}
+use Rattle.std.proofs.lemmas.Nat.{mul-add-lt}
 use Rattle.std.proofs.lemmas.Option.{slice_get-get_or}
 use Rattle.std.proofs.lemmas.List.{get_or_default, take_more}
 use Rattle.std.proofs.Math.Nat.{sub-zero}
 use Rattle.mw_model.proofs.mw_facts.Alls.{all-get_or, all-push, all-weaker}
 use Rattle.mw_model.proofs.mw_facts.Elements.{same_elements}
-use Rattle.mw_model.specs.declared.places.Rect.{Rect}
-use Rattle.mw_model.specs.Places.{Holds, IsWithin}
+use Rattle.mw_model.specs.declared.offsets.Rect.{Rect}
+use Rattle.mw_model.specs.Rectangles.{Holds, IsWithin}
 use Rattle.mw_model.specs.Rasters.{Raster, raster}
 use Rattle.mw_grid.specs.Rectangles.{whole_frame}
-use Rattle.mw_tile.specs.mw_pixel_words.Runs.{put_at}
-use Rattle.mw_tile.proofs.mw_pixel_words.Fronts.{front_more}
 use Rattle.mw_tile.proofs.Rows.{get_from_column, length-run, run_fits}
-use Rattle.mw_tile_pieces.specs.Patches.{Patch, patch_at, no_patch, cell_of, has_place, held_in, value_in, overlap_of, patch, IsFull, IsInside, IsPatchOf, ShowsIn, Covers, Joint, IsJoint, HasFirst, HasValues, window_value, ShowsFrame, frame_value}
+use Rattle.mw_tile_pieces.specs.Patches.{Patch, patch_at, no_patch, cell_of, has_place, held_in, value_in, overlap_of, patch, IsFull, IsInside, IsPatchOf, ShowsIn, PiecesCover, Joint, IsJoint, ShowsFrame, frame_value}
 
 -- ---- places of a rectangle
 
@@ -44,13 +42,13 @@ value_is value r (p ∷ ps) x y all holds held = go (has_place p.place x y) refl
     go false is held rest = rest held
 
 -- pieces that have these values in a rectangle, each place of which is one of theirs, agree there
-pub agree : {A : Type 0} (value : ℕ → ℕ → Option A) (r : Rect) (ps : List (Patch A)) → Covers r ps → AllByRecursion (ShowsIn r value) ps → AllByRecursion (ShowsIn r (value_in ps)) ps
+pub agree : {A : Type 0} (value : ℕ → ℕ → Option A) (r : Rect) (ps : List (Patch A)) → PiecesCover r ps → AllByRecursion (ShowsIn r value) ps → AllByRecursion (ShowsIn r (value_in ps)) ps
 agree {A} value r ps covers all = all-weaker (ShowsIn r value) (ShowsIn r (value_in ps)) ps (λ p shows x y holds here. shows x y holds here ∙ sym (value_is value r ps x y all holds (covers x y holds))) all
 
 pub shows_of_values : {A : Type 0} (value : ℕ → ℕ → Option A) (r : Rect) (ps : List (Patch A)) → AllByRecursion (ShowsIn r (value_in ps)) ps → ((x y : ℕ) → Holds r x y → value_in ps x y ≡ value x y) → AllByRecursion (ShowsIn r value) ps
 shows_of_values {A} value r ps all same = all-weaker (ShowsIn r (value_in ps)) (ShowsIn r value) ps (λ p shows x y holds here. shows x y holds here ∙ same x y holds) all
 
-pub values_of_shows : {A : Type 0} (value : ℕ → ℕ → Option A) (r : Rect) (ps : List (Patch A)) → Covers r ps → AllByRecursion (ShowsIn r value) ps → (x y : ℕ) → Holds r x y → value_in ps x y ≡ value x y
+pub values_of_shows : {A : Type 0} (value : ℕ → ℕ → Option A) (r : Rect) (ps : List (Patch A)) → PiecesCover r ps → AllByRecursion (ShowsIn r value) ps → (x y : ℕ) → Holds r x y → value_in ps x y ≡ value x y
 values_of_shows value r ps covers all x y holds = value_is value r ps x y all holds (covers x y holds)
 
 -- a piece has a cell at each of its places
@@ -156,35 +154,12 @@ all_next P xs i x lt is here before = subst (AllByRecursion P) (sym (take_more x
 
 -- ---- put together
 
--- what the window has in a column of a row
-window_value_at : {A : Type 0} (j : Joint A) (i q : ℕ) → i < j.place.width → window_value j (q * j.place.width + i) ≡ value_in j.pieces (j.place.x + i) (j.place.y + q)
-window_value_at j i q lt =
-    ap (λ (t : ℕ). value_in j.pieces (j.place.x + (q * j.place.width + i) % j.place.width) (j.place.y + t)) (div-mul-add q j.place.width i lt)
-    ∙ ap (λ (t : ℕ). value_in j.pieces (j.place.x + t) (j.place.y + q)) (mod-mul-add q j.place.width i lt)
-
-pub next_row : (y w : ℕ) → y * w + w ≡ (y + 1) * w
-next_row y w = grind arith
-
-pub all_values : {A : Type 0} (j : Joint A) (n : ℕ) (cells : List A) → j.place.height * j.place.width ≤ n → HasFirst j n cells → HasValues (value_in j.pieces) j.place cells
-all_values j n cells all first = record {
-  size = first.size;
-  same = λ i q across down. first.same (q * j.place.width + i) (omega (arith, mul-add-lt q j.place.width i j.place.height down across)) ∙ window_value_at j i q across;
-}
-
 -- the piece that was read at a number
 pub read_at : {A : Type 0} (ps qs : List (Patch A)) (k : ℕ) (p : Patch A) → qs ≡ ps → k < length ps → p ≡ get_or qs k p → p ≡ patch_at ps k
 read_at ps qs k p same lt is = is ∙ ap (λ (t : List (Patch _)). get_or t k p) same ∙ sym (get_or_default ps k no_patch p lt)
 
 pub patch_of : {A : Type 0} (j : Joint A) (k : ℕ) (p : Patch A) → IsJoint j → k < length j.pieces → p ≡ patch_at j.pieces k → IsPatchOf j.frame_width j.frame_height p
 patch_of {A} j k p joint lt is = subst (IsPatchOf j.frame_width j.frame_height) (sym is) (all-get_or (IsPatchOf j.frame_width j.frame_height) j.pieces k no_patch lt joint.patches)
-
--- a part of a piece that lies in the window has the values of the window
-pub part_shows : {A : Type 0} (j : Joint A) (k : ℕ) (p : Patch A) (x y count : ℕ) (part : List A) → IsJoint j → k < length j.pieces → p ≡ patch_at j.pieces k → j.place.x ≤ x → x + count ≤ j.place.x + j.place.width → j.place.y ≤ y → y < j.place.y + j.place.height
-    → Holds p.place x y → x + count ≤ p.place.x + p.place.width → RowIs (cell_of p) x y count part → RowIs (value_in j.pieces) x y count part
-part_shows j k p x y count part joint lt is left right top bottom holds p-right row i i-lt =
-    let shows : ShowsIn j.place (value_in j.pieces) p = subst (ShowsIn j.place (value_in j.pieces)) (sym is) (all-get_or (ShowsIn j.place (value_in j.pieces)) j.pieces k no_patch lt joint.agree) in
-    let a = holds.left in
-    row i i-lt ∙ shows (x + i) y (record { left = omega arith; right = omega arith; top = top; bottom = bottom }) (record { left = omega arith; right = omega arith; top = holds.top; bottom = holds.bottom })
 
 -- the rows of a plane that stands in a rectangle
 pub row_of_plane : {A : Type 0} (cells row : List A) (at : Rect) (x y n w : ℕ) → w ≡ at.width → at.x ≤ x → row ≡ slice_range cells ((y - at.y) * w + (x - at.x)) ((y - at.y) * w + (x - at.x) + n) → RowIs (cell_of (patch at cells)) x y n row
@@ -193,53 +168,6 @@ row_of_plane cells row at x y n w w-is le row-is k lt =
   where
     again : (x a k : ℕ) → a ≤ x → x - a + k ≡ x + k - a
     again x a k le = omega arith
-
--- a row of a window with a part of a piece written over it, both by their places in the frame
-abbrev pub part_written : {A : Type 0} → Rect → Rect → Raster A → Raster A → ℕ → ℕ → ℕ → Raster A
-part_written r s f now y n m =
-    let a = (r.y + y - s.y) * f.width + (r.x + n - s.x) in
-    raster now.width now.height (put_at (y * now.width + n) (slice_range f.cells a (a + m)) now.cells)
-
-fills_here : {A : Type 0} (j : Joint A) (k y n m : ℕ) (p : Patch A) (now out : Raster A) → IsJoint j → k < length j.pieces → p ≡ patch_at j.pieces k → Holds p.place (j.place.x + n) (j.place.y + y)
-    → n + m ≤ j.place.width → j.place.x + n + m ≤ p.place.x + p.place.width → y < j.place.height → now.width ≡ j.place.width → out ≡ part_written j.place p.place (raster p.place.width p.place.height p.cells) now y n m
-    → HasFirst j (y * j.place.width + n) now.cells → HasFirst j (y * j.place.width + n + m) out.cells
-fills_here {A} j k y n m p now out joint lt is holds across p-across down width-is out-is before =
-    let r = j.place in
-    let s = p.place in
-    let left = holds.left in
-    let top = holds.top in
-    let bottom = holds.bottom in
-    let a = (r.y + y - s.y) * s.width + (r.x + n - s.x) in
-    let row = slice_range p.cells a (a + m) in
-    let full : length p.cells ≡ s.height * s.width = (patch_of j k p joint lt is).full in
-    let fits : a + m ≤ length p.cells = omega (arith, full, run_fits (r.y + y - s.y) s.height s.width (r.x + n - s.x) m (omega arith) (omega arith)) in
-    let place : y * now.width + n ≡ y * r.width + n = ap (λ (t : ℕ). y * t + n) width-is in
-    let run : RowIs (cell_of p) (r.x + n) (r.y + y) m row = row_of_plane p.cells row s (r.x + n) (r.y + y) m s.width refl left refl in
-    let shows : RowIs (value_in j.pieces) (r.x + n) (r.y + y) m row = part_shows j k p (r.x + n) (r.y + y) m row joint lt is (omega arith) (omega arith) (omega arith) (omega arith) holds p-across run in
-    front_more (window_value j) (y * r.width + n) m (r.height * r.width) now.cells out.cells row (ap (λ (t : Raster A). t.cells) out-is ∙ ap (λ (t : ℕ). put_at t row now.cells) place) (length-run p.cells a m fits)
-    (run_fits y r.height r.width n m down across)
-    (λ i less. shows i less ∙ sym (ap (window_value j) (group (y * r.width) n i) ∙ window_value_at j (n + i) y (omega arith) ∙ ap (λ (t : ℕ). value_in j.pieces t (r.y + y)) (sym (group r.x n i))))
-    before
-  where
-    group : (b c i : ℕ) → b + c + i ≡ b + (c + i)
-    group b c i = omega arith
-
--- a step of a loop that writes a row part by part
-pub fills_more : {A : Type 0} (j : Joint A) (place held : Rect) (k y n m : ℕ) (p : Patch A) (f now out : Raster A) → IsJoint j → k < length j.pieces → p ≡ patch_at j.pieces k → place ≡ j.place → held ≡ p.place
-    → f ≡ raster p.place.width p.place.height p.cells → Holds (patch_at j.pieces k).place (place.x + n) (place.y + y) → n + m ≤ place.width → place.x + n + m ≤ held.x + held.width → y < j.place.height → now.width ≡ j.place.width
-    → out ≡ part_written place held f now y n m → HasFirst j (y * j.place.width + n) now.cells → HasFirst j (y * j.place.width + (n + m)) out.cells
-fills_more {A} j place held k y n m p f now out joint lt is place-is held-is f-is holds across p-across down width-is out-is before =
-    let xs = ap (λ (q : Rect). q.x) place-is in
-    let ws = ap (λ (q : Rect). q.width) place-is in
-    let us = ap (λ (q : Rect). q.x) held-is in
-    let vs = ap (λ (q : Rect). q.width) held-is in
-    let out-here : out ≡ part_written j.place p.place (raster p.place.width p.place.height p.cells) now y n m
-    = out-is ∙ ap (λ (q : Rect). part_written q held f now y n m) place-is ∙ ap (λ (q : Rect). part_written j.place q f now y n m) held-is ∙ ap (λ (g : Raster A). part_written j.place p.place g now y n m) f-is in
-    let holds-here : Holds p.place (j.place.x + n) (j.place.y + y) = subst (λ (q : Rect). Holds p.place (q.x + n) (q.y + y)) place-is (subst (λ (q : Patch A). Holds q.place (place.x + n) (place.y + y)) (sym is) holds) in
-    subst (λ (t : ℕ). HasFirst j t out.cells) (group (y * j.place.width) n m) (fills_here j k y n m p now out joint lt is holds-here (omega arith) (omega arith) down width-is out-here before)
-  where
-    group : (b c i : ℕ) → b + c + i ≡ b + (c + i)
-    group b c i = omega arith
 
 pub within_as : {A : Type 0} (j : Joint A) (r : Rect) (m n : ℕ) → IsJoint j → r ≡ j.place → m ≡ j.frame_width → n ≡ j.frame_height → IsWithin r m n
 within_as j r m n joint r-is m-is n-is = rw (r-is, m-is, n-is) joint.within

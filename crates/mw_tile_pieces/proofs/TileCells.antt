@@ -2,7 +2,7 @@
 use Rattle.std.proofs.Common.{◌≡◌, ℕ, ◌+◌, ◌*◌, ◌<◌, List, length, get_or, slice_get, Some, sym, subst, arith, ◌∙◌}
 use Rattle.std.proofs.lemmas.List.{ext_get_or}
 use Rattle.std.proofs.lemmas.Option.{get_or_from_slice_get}
-use Rattle.mw_model.specs.declared.places.Rect.{Rect}
+use Rattle.mw_model.specs.declared.offsets.Rect.{Rect}
 use Rattle.mw_model.specs.declared.shapes.Kind.TheVariants as kind
 use Rattle.mw_model.specs.Tasks.{cells_in}
 use Rattle.mw_model.proofs.ImagePlaces.{length-rows, sample-drawn, by_places}
@@ -20,7 +20,7 @@ cells_in_is r value xs size each =
     ext_get_or 0 (cells_in r value) xs (length-cells_in r value ∙ sym size)
     (λ k p. by_places (λ k. get_or (cells_in r value) k 0 ≡ get_or xs k 0) r.width r.height (λ i j across down. cells_in_at r value i j across down ∙ sym (each i j across down)) k (omega (arith, length-cells_in r value)))
 
--- the same, of values that are read as options
+-- cells that are these values, read as options
 pub cells_in_are : (r : Rect) (value : ℕ → ℕ → ℕ) (xs : List ℕ) → length xs ≡ r.height * r.width
     → ((i j : ℕ) → i < r.width → j < r.height → slice_get xs (j * r.width + i) ≡ Some (value (r.x + i) (r.y + j))) → cells_in r value ≡ xs
 cells_in_are r value xs size each = cells_in_is r value xs size (λ i j across down. get_or_from_slice_get xs (j * r.width + i) (value (r.x + i) (r.y + j)) 0 (each i j across down))

@@ -1,8 +1,8 @@
 -- Windows in pieces as windows of sources.
 use Rattle.std.proofs.Common.{◌≡◌, ◌↔◌, ℕ, ◌+◌, ◌-◌, ◌*◌, ◌<◌, List, length, get_or, slice_get, Option, Some, unwrap_or, sym, ap, subst, arith, ◌∙◌}
-use Rattle.mw_model.specs.declared.places.Rect.{Rect}
+use Rattle.mw_model.specs.declared.offsets.Rect.{Rect}
 use Rattle.mw_model.specs.declared.shapes.Kind.{Kind}
-use Rattle.mw_model.specs.Places.{Holds, IsWithin}
+use Rattle.mw_model.specs.Rectangles.{Holds, IsWithin}
 use Rattle.mw_model.specs.Pictures.{Picture, sample}
 use Rattle.mw_model.specs.Tasks.{cells_in}
 use Rattle.mw_model.specs.Windows.{View}

@@ -8,11 +8,11 @@ use Rattle.mw_tile.specs.mw_pixel_words.Packed.{bit_of}
 use Rattle.mw_tile.specs.mw_pixel_words.Runs.{IsBlended}
 use Rattle.mw_tile.proofs.mw_pixel_words.Bits.{bit_of_word, bit_of_its_word}
 use Rattle.mw_tile_pieces.specs.declared.blocks.Block.{Block}
-use Rattle.mw_tile_pieces.specs.Blocks.{IsPasted, IsRun}
+use Rattle.mw_tile_pieces.specs.Blocks.{CopiesRun, IsPasted}
 use Rattle.mw_tile_pieces.proofs.Pasted.{upper, pasted_down}
 
 word_run : (words from : List ℕ) (to at lead skip count word : ℕ) → lead + count ≤ 64 → skip + count ≤ 64 → to < length words → IsBlended lead count (get_or words to 0) (get_or from at 0 / 2 ^ skip) word
-    → IsRun (bit_of words) (bit_of (set words to word)) (bit_of from) (64 * to + lead) (64 * at + skip) count
+    → CopiesRun (bit_of words) (bit_of (set words to word)) (bit_of from) (64 * to + lead) (64 * at + skip) count
 word_run words from to at lead skip count word room other lt blend = record {
   copied = λ i less.
       let back : lead + i - lead ≡ i = omega arith in
@@ -58,6 +58,6 @@ words_down b n word old now from whole whole_other here there across lt blend be
     let next = bit_of (set now to word) in
     let run = word_run now from to at (b.start % 64) (b.first % 64) b.width word here there lt blend in
     pasted_down b n (bit_of old) (bit_of now) next (bit_of from) across
-    (subst (λ (t : ℕ). IsRun (bit_of now) next (bit_of from) t (b.first + n * b.own) b.width) (place_is b.start b.wide n whole)
-    (subst (λ (t : ℕ). IsRun (bit_of now) next (bit_of from) (64 * to + b.start % 64) t b.width) (place_is b.first b.own n whole_other) run))
+    (subst (λ (t : ℕ). CopiesRun (bit_of now) next (bit_of from) t (b.first + n * b.own) b.width) (place_is b.start b.wide n whole)
+    (subst (λ (t : ℕ). CopiesRun (bit_of now) next (bit_of from) (64 * to + b.start % 64) t b.width) (place_is b.first b.own n whole_other) run))
     before

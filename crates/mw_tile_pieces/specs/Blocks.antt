@@ -1,7 +1,7 @@
 -- Blocks of cells that are copied from one list into another (own). Cells are read by their places, as samples or bits.
 use Rattle.std.specs.Prelude.{◌≡◌, ◌≢◌, ◌⊎◌, ℕ, ◌+◌, ◌-◌, ◌*◌, ◌<◌, ◌≤◌}
-use Rattle.mw_model.specs.declared.places.Rect.{Rect}
-use Rattle.mw_model.specs.Places.{Holds}
+use Rattle.mw_model.specs.declared.offsets.Rect.{Rect}
+use Rattle.mw_model.specs.Rectangles.{Holds}
 use Rattle.mw_tile_pieces.specs.Patches.{overlap_of}
 use Rattle.mw_tile_pieces.specs.declared.blocks.Block.{Block}
 
@@ -13,8 +13,8 @@ abbrev pub block_at : Rect → Rect → Rect → ℕ → ℕ → Block
 block_at r h o wide own = block ((o.y - r.y) * wide + (o.x - r.x)) wide ((o.y - h.y) * own + (o.x - h.x)) own o.width o.height
 
 -- the rectangles have no place in common
-abbrev pub IsApart : Rect → Rect → Type 0
-IsApart r h = (x y : ℕ) → Holds r x y → ¬ Holds h x y
+abbrev pub AreApart : Rect → Rect → Type 0
+AreApart r h = (x y : ℕ) → Holds r x y → ¬ Holds h x y
 
 -- the block is what the rectangles have in common, and that is some place
 pub record IsCommon (r h : Rect) (wide own : ℕ) (b : Block) : Type 0 where
@@ -23,13 +23,13 @@ pub record IsCommon (r h : Rect) (wide own : ℕ) (b : Block) : Type 0 where
   pub high : 0 < b.high
 
 -- the block lies in lists of these lengths, and its rows do not overlap
-pub record Fits (b : Block) (n m : ℕ) : Type 0 where
+pub record BlockFits (b : Block) (n m : ℕ) : Type 0 where
   pub across : b.width ≤ b.wide
   pub room : (j : ℕ) → j < b.high → b.start + (j * b.wide + b.width) ≤ n
   pub other : (j : ℕ) → j < b.high → b.first + (j * b.own + b.width) ≤ m
 
 -- from place `to` on the new cells are so many of the others from place `at` on; else they are the old
-pub record IsRun {B : Type 0} (old new from : ℕ → B) (to at count : ℕ) : Type 0 where
+pub record CopiesRun {B : Type 0} (old new from : ℕ → B) (to at count : ℕ) : Type 0 where
   pub copied : (i : ℕ) → i < count → new (to + i) ≡ from (at + i)
   pub kept : (p : ℕ) → (p < to) ⊎ (to + count ≤ p) → new p ≡ old p
 

@@ -1,7 +1,7 @@
 -- Pieces whose cells are written into those of a window (own).
 use Rattle.std.specs.Prelude.{◌≡◌, ℕ, List, length}
-use Rattle.mw_model.specs.declared.places.Rect.{Rect}
-use Rattle.mw_model.specs.Places.{Holds}
+use Rattle.mw_model.specs.declared.offsets.Rect.{Rect}
+use Rattle.mw_model.specs.Rectangles.{Holds}
 use Rattle.mw_tile_pieces.specs.Patches.{Patch, patch, cell_of, ShowsIn}
 
 -- where the piece is, the new cells of the rectangle show it, and else the old cells

@@ -1,11 +1,10 @@
 -- Windows as the pieces of a frame that they are made of (own).
-use Rattle.std.specs.Prelude.{◌≡◌, ℕ, ◌+◌, ◌-◌, ◌*◌, ◌/◌, ◌%◌, ◌<◌, ◌≤◌, Bool, true, ◌&&◌, nat_le, nat_lt, min, max, cond, List, [], ◌∷◌, length, Option, None, slice_get, slice_index_or}
+use Rattle.std.specs.Prelude.{◌≡◌, ℕ, ◌+◌, ◌-◌, ◌*◌, ◌<◌, ◌≤◌, Bool, true, ◌&&◌, nat_le, nat_lt, min, max, cond, List, [], ◌∷◌, length, Option, None, slice_get, slice_index_or}
 use Rattle.std.specs.List.{AllByRecursion, list_any}
-use Rattle.mw_model.specs.declared.places.Rect.{Rect}
-use Rattle.mw_model.specs.Places.{rect, Holds, IsWithin}
+use Rattle.mw_model.specs.declared.offsets.Rect.{Rect}
+use Rattle.mw_model.specs.Rectangles.{rect, Holds, IsWithin}
 use Rattle.mw_model.specs.Rasters.{Raster}
 use Rattle.mw_model.specs.Windows.{View}
-use Rattle.mw_tile.specs.mw_pixel_words.Runs.{HasFront}
 
 -- Cells of a rectangle of a frame, by rows.
 pub record Patch (A : Type 0) : Type 0 where
@@ -69,8 +68,8 @@ abbrev pub ShowsIn : {A : Type 0} → Rect → (ℕ → ℕ → Option A) → Pa
 ShowsIn r value p = (x y : ℕ) → Holds r x y → Holds p.place x y → cell_of p x y ≡ value x y
 
 -- each place of the rectangle is one of a piece
-abbrev pub Covers : {A : Type 0} → Rect → List (Patch A) → Type 0
-Covers r ps = (x y : ℕ) → Holds r x y → held_in ps x y ≡ true
+abbrev pub PiecesCover : {A : Type 0} → Rect → List (Patch A) → Type 0
+PiecesCover r ps = (x y : ℕ) → Holds r x y → held_in ps x y ≡ true
 
 -- A window in pieces, with the sides of its frame.
 pub record Joint (A : Type 0) : Type 0 where
@@ -86,7 +85,7 @@ joint frame_width frame_height place pieces = record { frame_width = frame_width
 pub record IsJoint {A : Type 0} (j : Joint A) : Type 0 where
   pub within : IsWithin j.place j.frame_width j.frame_height
   pub patches : AllByRecursion (IsPatchOf j.frame_width j.frame_height) j.pieces
-  pub covers : Covers j.place j.pieces
+  pub covers : PiecesCover j.place j.pieces
   pub agree : AllByRecursion (ShowsIn j.place (value_in j.pieces)) j.pieces
 
 -- in the window the pieces have what this whole frame has there
@@ -106,14 +105,6 @@ pub record IsJoined {A : Type 0} (j : Joint A) (w : View A) : Type 0 where
   pub frame_height : w.frame_height ≡ j.frame_height
   pub place : w.place ≡ j.place
   pub values : HasValues (value_in j.pieces) j.place w.cells
-
--- what the pieces have at a place of the window, counted by rows
-abbrev pub window_value : {A : Type 0} → Joint A → ℕ → Option A
-window_value j k = value_in j.pieces (j.place.x + k % j.place.width) (j.place.y + k / j.place.width)
-
--- of the cells of the window the first n are those that the pieces have
-abbrev pub HasFirst : {A : Type 0} → Joint A → ℕ → List A → Type 0
-HasFirst j n cells = HasFront (window_value j) n (j.place.height * j.place.width) cells
 
 -- this plane is the window that the pieces make
 pub record IsWholeOf {A : Type 0} (j : Joint A) (p : Raster A) : Type 0 where

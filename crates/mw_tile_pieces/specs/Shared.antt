@@ -28,19 +28,19 @@ abbrev pub grey_joint : Joint ℕ → ℕ → SourceWindow
 grey_joint j maxval = source_joint kind.Grey maxval j
 
 -- the window that is held
-abbrev pub window_held : Held → SourceWindow
-window_held (Bits j) = set_joint j
-window_held (Grey8 j maxval) = grey_joint j maxval
-window_held (Grey16 j maxval) = grey_joint j maxval
+abbrev pub joint_held : Held → SourceWindow
+joint_held (Bits j) = set_joint j
+joint_held (Grey8 j maxval) = grey_joint j maxval
+joint_held (Grey16 j maxval) = grey_joint j maxval
 
 -- the maxval is one of this size of samples: up to 255 in one byte, and else in two
-abbrev pub IsHeld : Held → Type 0
-IsHeld (Bits j) = IsJoint j
-IsHeld (Grey8 j maxval) = IsJoint j × (1 ≤ maxval) × (maxval ≤ 255)
-IsHeld (Grey16 j maxval) = IsJoint j × (256 ≤ maxval)
+abbrev pub JointIsHeld : Held → Type 0
+JointIsHeld (Bits j) = IsJoint j
+JointIsHeld (Grey8 j maxval) = IsJoint j × (1 ≤ maxval) × (maxval ≤ 255)
+JointIsHeld (Grey16 j maxval) = IsJoint j × (256 ≤ maxval)
 
 -- what is looked at is this window
-abbrev pub Shows : SourceWindow → PiecesView → Type 0
-Shows s (view.Bits p) = (s ≡ set_joint p.now) × IsJoint p.now
-Shows s (view.Grey8 p maxval) = (s ≡ grey_joint p.now maxval) × IsJoint p.now × (1 ≤ maxval) × (maxval ≤ 255)
-Shows s (view.Grey16 p maxval) = (s ≡ grey_joint p.now maxval) × IsJoint p.now × (256 ≤ maxval)
+abbrev pub ShowsPieces : SourceWindow → PiecesView → Type 0
+ShowsPieces s (view.Bits p) = (s ≡ set_joint p.now) × IsJoint p.now
+ShowsPieces s (view.Grey8 p maxval) = (s ≡ grey_joint p.now maxval) × IsJoint p.now × (1 ≤ maxval) × (maxval ≤ 255)
+ShowsPieces s (view.Grey16 p maxval) = (s ≡ grey_joint p.now maxval) × IsJoint p.now × (256 ≤ maxval)

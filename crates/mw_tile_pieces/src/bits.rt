@@ -4,7 +4,7 @@
 ghost use Rattle.std.specs.Prelude.{◌≡◌, ◌+◌, ◌*◌, ◌/◌, ◌%◌, ◌<◌, ◌≤◌, ◌^◌, length};
 ghost use Rattle.mw_tile.specs.mw_pixel_words.Packed.{bit_of, samples_of, IsPacked};
 ghost use Rattle.mw_tile_pieces.specs.Patches.{value_in, HasValues};
-ghost use Rattle.mw_tile_pieces.specs.Blocks.{Fits, IsPasted};
+ghost use Rattle.mw_tile_pieces.specs.Blocks.{BlockFits, IsPasted};
 ghost use Rattle.mw_tile_pieces.specs.Laid.{IsLaid};
 
 use crate::blocks::{Block, common_words};
@@ -15,7 +15,7 @@ use mw_tile::words::blended;
 
 /// Writes a block that lies in one column of words on both sides.
 fn copy_in_words(out: &mut [u64], from: &[u64], block: Block)
-    requires fits { Fits block (64 * length out.old) (64 * length from.now) }
+    requires fits { BlockFits block (64 * length out.old) (64 * length from.now) }
     requires some { 0 < block.width }
     requires here { block.start % 64 + block.width ≤ 64 }
     requires there { block.first % 64 + block.width ≤ 64 }
@@ -33,7 +33,7 @@ fn copy_in_words(out: &mut [u64], from: &[u64], block: Block)
 
 /// Writes a block, part by part.
 fn copy_block(out: &mut [u64], from: &[u64], block: Block)
-    requires fits { Fits block (64 * length out.old) (64 * length from.now) }
+    requires fits { BlockFits block (64 * length out.old) (64 * length from.now) }
     requires few { length out.old < 2 ^ 58 }
     requires few_other { length from.now < 2 ^ 58 }
     requires some { 0 < block.high }

@@ -2,7 +2,7 @@
 
 ghost use Rattle.std.specs.Prelude.{◌+◌, ◌*◌, ◌<◌, ◌≤◌, ◌^◌, MatchOption};
 ghost use Rattle.mw_tile.specs.mw_pixel_words.Packed.{stride_of};
-ghost use Rattle.mw_tile_pieces.specs.Blocks.{IsApart, IsCommon};
+ghost use Rattle.mw_tile_pieces.specs.Blocks.{AreApart, IsCommon};
 
 use crate::overlap;
 use mw_model::Rect;
@@ -14,7 +14,7 @@ pub(crate) struct Block {
     /// Where the block begins in the list that is written, and how many cells a row of it has.
     pub(crate) start: usize,
     pub(crate) wide: usize,
-    /// The same of the list that is read.
+    /// Where the block begins in the list that is read, and how many cells a row of that has.
     pub(crate) first: usize,
     pub(crate) own: usize,
     pub(crate) width: usize,
@@ -31,7 +31,7 @@ pub(crate) fn common(place: Rect, held: Rect, wide: usize, own: usize) -> Option
     requires own { held.width ≤ own }
     requires small { wide ≤ 2 ^ 32 }
     requires small_other { own ≤ 2 ^ 32 }
-    ensures { MatchOption result (IsApart place held) (IsCommon place held wide own) }
+    ensures { MatchOption result (AreApart place held) (IsCommon place held wide own) }
 {
     let here = overlap(place, held);
     if here.width == 0 || here.height == 0 {
@@ -47,13 +47,13 @@ pub(crate) fn common(place: Rect, held: Rect, wide: usize, own: usize) -> Option
     })
 }
 
-/// The same of rectangles of sets, in bits of their words.
+/// What rectangles of sets have in common, as a block in bits of their words.
 pub(crate) fn common_words(place: Rect, held: Rect) -> Option<Block>
     requires across { place.x + place.width < 2 ^ 32 }
     requires down { place.y + place.height < 2 ^ 32 }
     requires across_other { held.x + held.width < 2 ^ 32 }
     requires down_other { held.y + held.height < 2 ^ 32 }
-    ensures { MatchOption result (IsApart place held) (IsCommon place held (64 * stride_of place.width) (64 * stride_of held.width)) }
+    ensures { MatchOption result (AreApart place held) (IsCommon place held (64 * stride_of place.width) (64 * stride_of held.width)) }
 {
     common(
         place,

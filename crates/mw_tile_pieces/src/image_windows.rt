@@ -7,7 +7,7 @@ use std::alloc::Global;
 
 impl SharedWindow {
     ghost use Rattle.std.specs.Prelude.{◌≡◌, ◌↔◌, IfOk, IsTrue};
-    ghost use Rattle.mw_model.specs.Places.{IsWithin};
+    ghost use Rattle.mw_model.specs.Rectangles.{IsWithin};
     ghost use Rattle.mw_tile.specs.Windows.{window_of};
 
     /// The window of a rectangle of an image, as one more owner of the image's plane.

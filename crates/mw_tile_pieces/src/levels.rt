@@ -2,7 +2,7 @@
 
 ghost use Rattle.std.specs.Prelude.{◌≡◌, ◌+◌, ◌*◌, ◌<◌, ◌≤◌, ◌^◌, length, slice_get};
 ghost use Rattle.mw_tile_pieces.specs.Patches.{value_in, HasValues};
-ghost use Rattle.mw_tile_pieces.specs.Blocks.{Fits, IsPasted, IsRun};
+ghost use Rattle.mw_tile_pieces.specs.Blocks.{BlockFits, CopiesRun, IsPasted};
 ghost use Rattle.mw_tile_pieces.specs.Laid.{IsLaid};
 
 use crate::blocks::{Block, common};
@@ -18,14 +18,14 @@ const NARROW: usize = 4;
 fn copy_run<P: Pixel>(out: &mut [P], to: usize, from: &[P], at: usize, count: usize)
     requires room { to + count ≤ length out.old }
     requires other { at + count ≤ length from.now }
-    ensures { IsRun (slice_get out.old) (slice_get out.new) (slice_get from.now) to at count }
+    ensures { CopiesRun (slice_get out.old) (slice_get out.new) (slice_get from.now) to at count }
 {
     out[to..to + count].copy_from_slice(&from[at..at + count]);
 }
 
 /// Writes a block of one column.
 fn copy_column<P: Pixel>(out: &mut [P], from: &[P], block: Block)
-    requires fits { Fits block (length out.old) (length from.now) }
+    requires fits { BlockFits block (length out.old) (length from.now) }
     requires column { block.width ≡ 1 }
     ensures { IsPasted block (slice_get out.old) (slice_get out.new) (slice_get from.now) }
 {
@@ -36,7 +36,7 @@ fn copy_column<P: Pixel>(out: &mut [P], from: &[P], block: Block)
 
 /// Writes a block column by column.
 fn copy_columns<P: Pixel>(out: &mut [P], from: &[P], block: Block)
-    requires fits { Fits block (length out.old) (length from.now) }
+    requires fits { BlockFits block (length out.old) (length from.now) }
     requires some { 0 < block.high }
     ensures { IsPasted block (slice_get out.old) (slice_get out.new) (slice_get from.now) }
 {
@@ -53,7 +53,7 @@ fn copy_columns<P: Pixel>(out: &mut [P], from: &[P], block: Block)
 
 /// Writes a block row by row.
 fn copy_rows<P: Pixel>(out: &mut [P], from: &[P], block: Block)
-    requires { Fits block (length out.old) (length from.now) }
+    requires { BlockFits block (length out.old) (length from.now) }
     ensures { IsPasted block (slice_get out.old) (slice_get out.new) (slice_get from.now) }
 {
     for y in 0..block.high {
@@ -64,7 +64,7 @@ fn copy_rows<P: Pixel>(out: &mut [P], from: &[P], block: Block)
 
 /// Writes a block.
 fn copy_block<P: Pixel>(out: &mut [P], from: &[P], block: Block)
-    requires fits { Fits block (length out.old) (length from.now) }
+    requires fits { BlockFits block (length out.old) (length from.now) }
     requires some { 0 < block.high }
     ensures { IsPasted block (slice_get out.old) (slice_get out.new) (slice_get from.now) }
 {

@@ -8,7 +8,7 @@
 //!
 //! ```text
 //! let window = SharedWindow::of_image(alloc, &image, place)?;    // no sample is copied
-//! let samples = mw_tile_pieces::joined(alloc, &window)?;              // an AnyWindow, with samples in a row
+//! let samples = mw_tile_pieces::assemble(alloc, &window)?;          // an AnyWindow, with samples in a row
 //! ```
 #![tactic(auto)]
 
@@ -17,18 +17,17 @@ mod blocks;
 mod compared;
 mod image_windows;
 mod levels;
+mod overlaps;
 mod piece;
 mod pieces;
-mod places;
-mod row_parts;
 mod shared;
 mod uniform;
 mod whole_windows;
 
 pub use mw_model::{NoMemory, Rect};
+pub use overlaps::overlap;
 pub use piece::Piece;
 pub use pieces::Pieces;
-pub use places::overlap;
 pub use shared::{PiecesView, SharedWindow};
 pub use whole_windows::assemble;
 

@@ -5,6 +5,7 @@ ghost use Rattle.std.specs.Prelude.{◌≡◌};
 use crate::Piece;
 use mw_grid::whole_frame;
 use mw_model::{NoMemory, Rect};
+use mw_tile::Window;
 use mw_tile::pixel::{Planar, Plane};
 use std::alloc::Global;
 use std::marker::Model;
@@ -30,10 +31,10 @@ impl<P: Planar> Model for Pieces<P> {
 }
 
 impl<P: Planar> Pieces<P> {
-    ghost use Rattle.std.specs.Prelude.{◌≡◌, [], ◌∷◌, IfOk};
+    ghost use Rattle.std.specs.Prelude.{◌≡◌, [], ◌∷◌, IfOk, IfSome};
     ghost use Rattle.std.specs.Arc.{arc_value};
-    ghost use Rattle.mw_model.specs.Places.{IsWithin};
-    ghost use Rattle.mw_tile_pieces.specs.Patches.{joint, IsFull, IsInside, IsJoint, ShowsFrame};
+    ghost use Rattle.mw_model.specs.Rectangles.{IsWithin};
+    ghost use Rattle.mw_tile_pieces.specs.Patches.{joint, IsFull, IsInside, IsJoined, IsJoint, IsWholeOf, ShowsFrame};
 
     /// The window that these pieces make.
     pub fn new(frame_width: u32, frame_height: u32, place: Rect, pieces: Vec<Piece<P>>) -> Pieces<P>
@@ -105,5 +106,34 @@ impl<P: Planar> Pieces<P> {
         ensures joint { IsJoint self.now }
     {
         &self.pieces
+    }
+
+    /// One more owner of the plane of the piece that is the window, if one is.
+    fn whole(&self) -> Result<Option<Arc<Plane<P>>>, NoMemory>
+        ensures { IfOk result (λ o. IfSome o (λ p. IsWholeOf self.now (arc_value p))) }
+    {
+        match self.pieces() {
+            [piece] => {
+                if piece.place() == self.place() {
+                    Ok(Some(piece.owner()?))
+                } else {
+                    Ok(None)
+                }
+            }
+            _ => Ok(None),
+        }
+    }
+
+    /// The window as one more owner of the samples of its only piece, where one piece is the window.
+    pub(crate) fn shared(&self) -> Result<Option<Window<P>>, NoMemory>
+        ensures { IfOk result (λ o. IfSome o (IsJoined self.now)) }
+    {
+        let (width, height, place) = (self.frame_width(), self.frame_height(), self.place());
+        // for what holds of all pieces
+        let _pieces = self.pieces();
+        if let Some(plane) = self.whole()? {
+            return Ok(Some(Window::standing(width, height, place, plane)));
+        }
+        Ok(None)
     }
 }

@@ -2,10 +2,8 @@
 //! the window that it makes.
 
 use crate::Pieces;
-use mw_model::{Kind, NoMemory, Rect};
-use mw_tile::AnyWindow;
+use mw_model::{Kind, Rect};
 use mw_tile::pixel::Bit;
-use std::alloc::Global;
 use std::marker::Model;
 
 /// The pieces of a window, to be looked at; beside them the maxval of the source.
@@ -34,16 +32,16 @@ impl Model for SharedWindow {
 
     ghost Value = { SourceWindow };
 
-    ghost use Rattle.mw_tile_pieces.specs.Shared.{window_held, IsHeld};
+    ghost use Rattle.mw_tile_pieces.specs.Shared.{joint_held, JointIsHeld};
 
-    ghost view = { λ a. window_held a.content };
+    ghost view = { λ a. joint_held a.content };
 
-    ghost invariant = { λ a. IsHeld a.content };
+    ghost invariant = { λ a. JointIsHeld a.content };
 }
 
 impl SharedWindow {
-    ghost use Rattle.std.specs.Prelude.{◌≡◌, ◌≤◌, IfOk};
-    ghost use Rattle.mw_tile_pieces.specs.Shared.{set_joint, grey_joint, Shows};
+    ghost use Rattle.std.specs.Prelude.{◌≡◌, ◌≤◌};
+    ghost use Rattle.mw_tile_pieces.specs.Shared.{set_joint, grey_joint, ShowsPieces};
 
     /// The window of a set.
     pub fn bits(pieces: Pieces<Bit>) -> SharedWindow
@@ -82,7 +80,7 @@ impl SharedWindow {
 
     /// What is inside, to be looked at.
     pub fn view(&self) -> PiecesView<'_>
-        ensures { Shows self.now result }
+        ensures { ShowsPieces self.now result }
     {
         match &self.content {
             Held::Bits(p) => PiecesView::Bits(p),
@@ -144,26 +142,6 @@ impl SharedWindow {
             Held::Bits(_) => 1,
             Held::Grey8(_, maxval) => u16::from(*maxval),
             Held::Grey16(_, maxval) => *maxval,
-        }
-    }
-
-    /// The window, put together.
-    pub fn assemble(&self, alloc: Global) -> Result<AnyWindow, NoMemory>
-        ensures { IfOk result (λ w. w ≡ self.now) }
-    {
-        match &self.content {
-            Held::Bits(p) => {
-                let window = p.assemble(alloc)?;
-                Ok(AnyWindow::bits(window))
-            }
-            Held::Grey8(p, maxval) => {
-                let window = p.assemble(alloc)?;
-                Ok(AnyWindow::grey8(window, *maxval))
-            }
-            Held::Grey16(p, maxval) => {
-                let window = p.assemble(alloc)?;
-                Ok(AnyWindow::grey16(window, *maxval))
-            }
         }
     }
 }

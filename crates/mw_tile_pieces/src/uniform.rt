@@ -7,7 +7,7 @@ ghost use Rattle.std.specs.Prelude.{◌≡◌, ℕ, ◌+◌, ◌*◌, ◌%◌, �
 ghost use Rattle.std.specs.Int.{bit_at};
 ghost use Rattle.mw_tile.specs.mw_pixel_words.Packed.{bit_of};
 ghost use Rattle.mw_tile_pieces.specs.Patches.{value_in, HasValues};
-ghost use Rattle.mw_tile_pieces.specs.Blocks.{Fits, ReadsOnly};
+ghost use Rattle.mw_tile_pieces.specs.Blocks.{BlockFits, ReadsOnly};
 ghost use Rattle.mw_tile_pieces.specs.Laid.{IsLaid};
 
 use crate::blocks::{Block, common_words};

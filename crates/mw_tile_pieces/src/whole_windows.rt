@@ -6,32 +6,18 @@ ghost use Rattle.mw_tile_pieces.specs.Patches.{IsJoined, IsWholeOf};
 use crate::uniform::only_pixel;
 use crate::{Pieces, PiecesView, SharedWindow, bits, levels};
 use mw_model::NoMemory;
-use mw_tile::pixel::{Bit, Grey, Planar, Plane, Words, copies};
+use mw_tile::pixel::{Bit, Grey, Plane, Words, copies};
 use mw_tile::words::{repeated, stride};
 use mw_tile::{AnyWindow, Window};
 use std::alloc::Global;
-
-/// Whether one piece is the window.
-fn is_one<P: Planar>(pieces: &Pieces<P>) -> bool {
-    match pieces.pieces() {
-        [piece] => piece.place() == pieces.place(),
-        _ => false,
-    }
-}
-
-/// Whether the window can share the samples of its only piece.
-fn is_shared(window: &SharedWindow) -> bool {
-    match window.view() {
-        PiecesView::Bits(pieces) => is_one(pieces),
-        PiecesView::Grey8(pieces, _) => is_one(pieces),
-        PiecesView::Grey16(pieces, _) => is_one(pieces),
-    }
-}
 
 /// The window of a source in levels of grey.
 fn of_levels<P: Grey>(alloc: Global, pieces: &Pieces<P>) -> Result<Window<P>, NoMemory>
     ensures { IfOk result (IsJoined pieces.now) }
 {
+    if let Some(window) = pieces.shared()? {
+        return Ok(window);
+    }
     let (width, height, place) = (pieces.frame_width(), pieces.frame_height(), pieces.place());
     // for what holds of all pieces
     let _pieces = pieces.pieces();
@@ -70,6 +56,9 @@ fn pixels_of(alloc: Global, pieces: &Pieces<Bit>) -> Result<Words, NoMemory>
 fn of_set(alloc: Global, pieces: &Pieces<Bit>) -> Result<Window<Bit>, NoMemory>
     ensures { IfOk result (IsJoined pieces.now) }
 {
+    if let Some(window) = pieces.shared()? {
+        return Ok(window);
+    }
     let (width, height, place) = (pieces.frame_width(), pieces.frame_height(), pieces.place());
     // for what holds of all pieces
     let _pieces = pieces.pieces();
@@ -82,9 +71,6 @@ fn of_set(alloc: Global, pieces: &Pieces<Bit>) -> Result<Window<Bit>, NoMemory>
 pub fn assemble(alloc: Global, window: &SharedWindow) -> Result<AnyWindow, NoMemory>
     ensures { IfOk result (λ w. w ≡ window.now) }
 {
-    if is_shared(window) {
-        return window.assemble(alloc);
-    }
     match window.view() {
         PiecesView::Bits(pieces) => {
             let joined = of_set(alloc, pieces)?;

@@ -3,8 +3,8 @@ use Rattle.std.proofs.Common.{◌≡◌, ℕ, ◌+◌, ◌-◌, ◌*◌, ◌<◌
 use Rattle.std.proofs.lemmas.Bool.{cases_lt}
 use Rattle.std.proofs.lemmas.List.{get_or_past}
 use Rattle.std.proofs.lemmas.List.Elements.{All-from_get_or}
-use Rattle.mw_model.specs.declared.places.Rect.{Rect}
-use Rattle.mw_model.specs.Places.{Holds, IsWithin}
+use Rattle.mw_model.specs.declared.offsets.Rect.{Rect}
+use Rattle.mw_model.specs.Rectangles.{Holds, IsWithin}
 use Rattle.mw_model.specs.Pictures.{Picture, sample, IsPicture}
 use Rattle.mw_model.specs.Tasks.{cells_in}
 use Rattle.mw_model.proofs.ImagePlaces.{length-rows, sample-drawn, by_places, sample_bounded}
@@ -13,9 +13,9 @@ use Rattle.mw_grid.proofs.Tiles.{HasTiles}
 use Rattle.mw_step_task.specs.mw_tile.Windows.{SourceWindow, window_of}
 use Rattle.mw_step_task.specs.WindowTasks.{IsBounded}
 use Rattle.mw_step_task.proofs.mw_tile_pieces.TileCells.{length-cells_in, cells_in_is, cells_in_all}
-use Rattle.mw_tile_slots.specs.Tiles.{HasSizes, number_at, tile_cells}
+use Rattle.mw_tile_slots.specs.Tiles.{HasSizes, tile_cells, tile_number_at}
 use Rattle.mw_tile_slots.proofs.Numbers.{number_only}
-use Rattle.mw_tile_planes.specs.Tiles.{Tiled, AreBounded, IsSound, IsPlaneOf}
+use Rattle.mw_tile_planes.specs.Tiles.{Tiled, AreBounded, TiledIsSound, IsPlaneOf}
 use Rattle.mw_tile_planes.specs.Filled.{cell_or, cell_in, filled_value, filled}
 use Rattle.mw_tile_planes.proofs.Made.{shows_drawn}
 
@@ -38,10 +38,10 @@ filled_tiles : (g : Tiling) (tiles : List (Option (List ℕ))) → 0 < g.side �
 filled_tiles g tiles some sizes i cells lt found =
     sym (cells_in_is (tile_at g i) (filled_value g tiles) cells (sizes i cells lt found) (λ a b across down. filled_at g tiles i cells a b some found across down))
 
-pub tiles_of_plane : (p : Tiled) → IsSound p → HasTiles p.tiling
+pub tiles_of_plane : (p : Tiled) → TiledIsSound p → HasTiles p.tiling
 tiles_of_plane p sound = record { wide = sound.wide; high = sound.high; some = sound.some }
 
-pub filled_is_plane : (p : Tiled) → IsSound p → IsPlaneOf p (filled p)
+pub filled_is_plane : (p : Tiled) → TiledIsSound p → IsPlaneOf p (filled p)
 filled_is_plane p sound =
     let g = p.tiling in
     let some : 0 < g.side = let least = sound.some in omega arith in
@@ -63,10 +63,10 @@ cell_bounded level (Some cells) k all =
 
 filled_bounded : (g : Tiling) (tiles : List (Option (List ℕ))) (level x y : ℕ) → AreBounded level tiles → filled_value g tiles x y ≤ level
 filled_bounded g tiles level x y bounded =
-    let n = number_at g x y in
+    let n = tile_number_at g x y in
     cell_bounded level (tile_cells tiles n) ((y - (tile_at g n).y) * (tile_at g n).width + (x - (tile_at g n).x)) (bounded n)
 
-pub filled_is_picture : (p : Tiled) → IsSound p → IsPicture (filled p)
+pub filled_is_picture : (p : Tiled) → TiledIsSound p → IsPicture (filled p)
 filled_is_picture p sound =
     let g = p.tiling in
     let value = filled_value g p.tiles in
@@ -80,7 +80,7 @@ filled_is_picture p sound =
     }
 
 -- a window of each image with these tiles has no sample over the maxval
-pub window_bounded : (p : Tiled) (r : Rect) (w : SourceWindow) → IsSound p → IsWithin r p.tiling.width p.tiling.height → ((f : Picture) → IsPlaneOf p f → w ≡ window_of r f) → IsBounded w
+pub window_bounded : (p : Tiled) (r : Rect) (w : SourceWindow) → TiledIsSound p → IsWithin r p.tiling.width p.tiling.height → ((f : Picture) → IsPlaneOf p f → w ≡ window_of r f) → IsBounded w
 window_bounded p r w sound within is =
     let f = filled p in
     let over = within.across in
@@ -90,5 +90,5 @@ window_bounded p r w sound within is =
     (λ k lt. cells_in_all (λ n. n ≤ p.maxval) r (sample f) (λ i j across down. sample_bounded f (filled_is_picture p sound) (r.x + i) (r.y + j) (omega arith) (omega arith)) k (omega (arith, length-cells_in r (sample f)))))
 
 -- nor have the samples of each
-pub samples_bounded : (p : Tiled) (cells : List ℕ) → IsSound p → ((f : Picture) → IsPlaneOf p f → cells ≡ f.samples) → All (λ n. n ≤ p.maxval) cells
+pub samples_bounded : (p : Tiled) (cells : List ℕ) → TiledIsSound p → ((f : Picture) → IsPlaneOf p f → cells ≡ f.samples) → All (λ n. n ≤ p.maxval) cells
 samples_bounded p cells sound is = subst (λ (t : List ℕ). All (λ n. n ≤ p.maxval) t) (sym (is (filled p) (filled_is_plane p sound))) (filled_is_picture p sound).bounded

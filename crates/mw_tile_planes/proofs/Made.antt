@@ -2,9 +2,9 @@
 use Rattle.std.proofs.Common.{◌≡◌, ℕ, ◌+◌, ◌*◌, ◌<◌, List, length, Some, false, refl, sym, ap, subst, arith, ◌∙◌}
 use Rattle.std.proofs.lemmas.Nat.{mul-add-lt}
 use Rattle.std.proofs.lemmas.Option.{slice_get-get_or}
-use Rattle.mw_model.specs.declared.places.Rect.{Rect}
+use Rattle.mw_model.specs.declared.offsets.Rect.{Rect}
 use Rattle.mw_model.specs.declared.shapes.Kind.{Kind}
-use Rattle.mw_model.specs.Places.{IsWithin}
+use Rattle.mw_model.specs.Rectangles.{IsWithin}
 use Rattle.mw_model.specs.Pictures.{Picture, drawn}
 use Rattle.mw_model.specs.Plans.{plane_of, is_sum, no_picture, sight_of}
 use Rattle.mw_model.specs.PlanSteps.{PlanStep, step_at}

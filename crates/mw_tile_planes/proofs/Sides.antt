@@ -13,8 +13,8 @@ use Rattle.mw_grid.specs.Grids.{Tiling, tile_count}
 use Rattle.mw_grid.proofs.Tiles.{HasTiles}
 use Rattle.mw_tile_slots.specs.Tiles.{cells_of, tile_cells, cells_in_raster, HasSides}
 use Rattle.mw_tile_slots.proofs.Sides.{one_of, sides_none, sizes_of_sides}
-use Rattle.mw_tile_planes.specs.Tiles.{Tiled, nothing_placed, AreBounded, IsSound}
-use Rattle.mw_tile_planes.specs.Held.{tiled, tiled_held, image_of_tile, IsHeld}
+use Rattle.mw_tile_planes.specs.Tiles.{Tiled, nothing_placed, AreBounded, TiledIsSound}
+use Rattle.mw_tile_planes.specs.Held.{tiled, tiled_held, image_of_tile, TilesAreHeld}
 use Rattle.mw_tile_planes.specs.declared.tile.Tile.{Tile}
 use Rattle.mw_tile_planes.specs.declared.plane.Samples.{Samples}
 use Rattle.mw_tile_planes.specs.declared.plane.Samples.TheVariants.{Bits, Grey8, Grey16}
@@ -63,7 +63,7 @@ written_held k maxval g tiles new i o p view e =
     subst (λ (q : Tiled). tiled k maxval g new ≡ record q { tiles = set q.tiles i o }) view (ap (λ (t : List (Option (List ℕ))). with_cells k maxval g t) e)
 
 -- what is held is sound
-pub sound_held : (g : Tiling) (s : Samples) → HasTiles g → IsHeld g s → IsSound (tiled_held g s)
+pub sound_held : (g : Tiling) (s : Samples) → HasTiles g → TilesAreHeld g s → TiledIsSound (tiled_held g s)
 sound_held g (Bits tiles) has held = record { wide = has.wide; high = has.high; some = has.some; sizes = sizes_of_sides g tiles.items held.0; bounded = held.1 }
 sound_held g (Grey8 tiles m) has held = record { wide = has.wide; high = has.high; some = has.some; sizes = sizes_of_sides g tiles.items held.0; bounded = held.1 }
 sound_held g (Grey16 tiles m) has held = record { wide = has.wide; high = has.high; some = has.some; sizes = sizes_of_sides g tiles.items held.0; bounded = held.1 }

@@ -9,8 +9,8 @@ use Rattle.std.proofs.lemmas.List.FromFn.{length-map-range_with_len, get_or-map-
 use Rattle.std.proofs.lemmas.List.Sums.{sum_by-cons, sum_by-append}
 use Rattle.std.proofs.Math.ListN.{get_or-map}
 use Rattle.mw_model.proofs.mw_facts.Finds.{option_cases}
-use Rattle.mw_model.specs.declared.places.Rect.{Rect}
-use Rattle.mw_model.specs.Places.{rect}
+use Rattle.mw_model.specs.declared.offsets.Rect.{Rect}
+use Rattle.mw_model.specs.Rectangles.{rect}
 use Rattle.mw_model.specs.Pictures.{Picture, sample, sample_at, IsPicture}
 use Rattle.mw_model.specs.PlanSteps.{Sum, here}
 use Rattle.mw_model.specs.Tasks.{cells_in}

@@ -1,9 +1,9 @@
 -- Windows of planes.
 use Rattle.std.proofs.Common.{◌≡◌, ◌↔◌, ℕ, List, Option, refl, sym, subst, arith}
-use Rattle.mw_model.specs.declared.places.Rect.{Rect}
+use Rattle.mw_model.specs.declared.offsets.Rect.{Rect}
 use Rattle.mw_model.specs.declared.shapes.Kind.{Kind}
 use Rattle.mw_model.specs.Pictures.{Picture}
-use Rattle.mw_model.specs.Places.{IsWithin}
+use Rattle.mw_model.specs.Rectangles.{IsWithin}
 use Rattle.mw_model.specs.Rasters.{Raster}
 use Rattle.mw_grid.specs.Grids.{Tiling}
 use Rattle.mw_step_task.specs.mw_pixel.Images.{raster_of}

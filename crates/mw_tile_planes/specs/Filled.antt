@@ -2,7 +2,7 @@
 use Rattle.std.specs.Prelude.{ℕ, ◌+◌, ◌-◌, ◌*◌, List, Option, Some, None, slice_index_or}
 use Rattle.mw_model.specs.Pictures.{Picture, drawn}
 use Rattle.mw_grid.specs.Grids.{Tiling, tile_at}
-pub use Rattle.mw_tile_slots.specs.Tiles.{number_at}
+pub use Rattle.mw_tile_slots.specs.Tiles.{tile_number_at}
 use Rattle.mw_tile_planes.specs.Tiles.{Tiled, tile_cells}
 
 -- a cell of a tile, or 0 where there is none
@@ -15,7 +15,7 @@ abbrev pub cell_in : Tiling → List (Option (List ℕ)) → ℕ → ℕ → ℕ
 cell_in g tiles n x y = cell_or (tile_cells tiles n) ((y - (tile_at g n).y) * (tile_at g n).width + (x - (tile_at g n).x))
 
 abbrev pub filled_value : Tiling → List (Option (List ℕ)) → ℕ → ℕ → ℕ
-filled_value g tiles x y = cell_in g tiles (number_at g x y) x y
+filled_value g tiles x y = cell_in g tiles (tile_number_at g x y) x y
 
 -- the image that is filled up
 abbrev pub filled : Tiled → Picture

@@ -37,7 +37,7 @@ tiled_held g (Grey8 tiles maxval) = tiled kind.Grey maxval g tiles.items
 tiled_held g (Grey16 tiles maxval) = tiled kind.Grey maxval g tiles.items
 
 -- tiles have the sides of their places, no sample is over the maxval, and that is one of this size of samples
-abbrev pub IsHeld : Tiling → Samples → Type 0
-IsHeld g (Bits tiles) = HasSides g tiles.items × AreBounded 1 (cells_of tiles.items)
-IsHeld g (Grey8 tiles maxval) = HasSides g tiles.items × AreBounded maxval (cells_of tiles.items) × (1 ≤ maxval) × (maxval ≤ 255)
-IsHeld g (Grey16 tiles maxval) = HasSides g tiles.items × AreBounded maxval (cells_of tiles.items) × (256 ≤ maxval)
+abbrev pub TilesAreHeld : Tiling → Samples → Type 0
+TilesAreHeld g (Bits tiles) = HasSides g tiles.items × AreBounded 1 (cells_of tiles.items)
+TilesAreHeld g (Grey8 tiles maxval) = HasSides g tiles.items × AreBounded maxval (cells_of tiles.items) × (1 ≤ maxval) × (maxval ≤ 255)
+TilesAreHeld g (Grey16 tiles maxval) = HasSides g tiles.items × AreBounded maxval (cells_of tiles.items) × (256 ≤ maxval)

@@ -25,7 +25,7 @@ abbrev pub AreBounded : ℕ → List (Option (List ℕ)) → Type 0
 AreBounded level tiles = (i : ℕ) (cells : List ℕ) → tile_cells tiles i ≡ Some cells → All (λ n. n ≤ level) cells
 
 -- what is so of every plane that is made tile by tile: it has a frame and tiles, each that is placed fills its rectangle, and no sample is over the maxval
-pub record IsSound (p : Tiled) : Type 0 where
+pub record TiledIsSound (p : Tiled) : Type 0 where
   pub wide : 1 ≤ p.tiling.width
   pub high : 1 ≤ p.tiling.height
   pub some : 1 ≤ p.tiling.side

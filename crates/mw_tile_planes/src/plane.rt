@@ -31,23 +31,23 @@ impl Model for TiledPlane {
 
     ghost Value = { Tiled };
 
-    ghost use Rattle.mw_tile_planes.specs.Held.{tiled_held, IsHeld};
+    ghost use Rattle.mw_tile_planes.specs.Held.{tiled_held, TilesAreHeld};
 
     ghost view = { λ p. tiled_held p.grid p.content };
 
-    ghost invariant = { λ p. IsHeld p.grid p.content };
+    ghost invariant = { λ p. TilesAreHeld p.grid p.content };
 }
 
 impl TiledPlane {
     ghost use Rattle.std.specs.Prelude.{◌≡◌, ◌↔◌, ◌<◌, ◌≤◌, All, IfOk, IsTrue, None, Some, slice_set};
     ghost use Rattle.mw_model.specs.Pictures.{FitsKind, Picture};
-    ghost use Rattle.mw_model.specs.Places.{IsWithin};
+    ghost use Rattle.mw_model.specs.Rectangles.{IsWithin};
     ghost use Rattle.mw_grid.specs.Grids.{tile_at, tile_count};
     ghost use Rattle.mw_step_task.specs.mw_tile.Windows.{window_of};
     ghost use Rattle.mw_step_task.specs.WindowTasks.{IsBounded};
-    ghost use Rattle.mw_tile_planes.specs.Tiles.{AllPlaced, HasAll, IsPlaneOf, IsSound, nothing_placed, tile_cells};
+    ghost use Rattle.mw_tile_planes.specs.Tiles.{AllPlaced, HasAll, IsPlaneOf, TiledIsSound, nothing_placed, tile_cells};
     ghost use Rattle.mw_tile_planes.specs.Held.{image_of_tile, IsTile};
-    ghost use Rattle.mw_tile_planes.specs.Views.{Shows};
+    ghost use Rattle.mw_tile_planes.specs.Views.{ShowsInTiles};
 
     /// The plane without any tile, with the places for all.
     #[tactic(auto, using(crate::proofs::Sides::no_sets))]
@@ -142,7 +142,7 @@ impl TiledPlane {
 
     /// What is so of each plane: a call that is made only for this fact.
     pub(crate) fn sound(&self)
-        ensures { IsSound self.now }
+        ensures { TiledIsSound self.now }
     {
         let _width = self.grid.width();
         let _height = self.grid.height();
@@ -244,7 +244,7 @@ impl TiledPlane {
     /// The tiles, to be looked at, once every one is placed.
     pub(crate) fn view(&self) -> TilesView<'_>
         requires { AllPlaced self.now }
-        ensures { (f : Picture) → IsPlaneOf self.now f → Shows f result }
+        ensures { (f : Picture) → IsPlaneOf self.now f → ShowsInTiles f result }
     {
         let grid = self.grid;
         match &self.content {
@@ -256,7 +256,7 @@ impl TiledPlane {
         }
     }
 
-    /// The same plane, as one more owner of each of its tiles.
+    /// This plane once more, as one more owner of each of its tiles.
     pub fn share(&self, alloc: Global) -> Result<TiledPlane, NoMemory>
         ensures { IfOk result (λ p. p ≡ self.now) }
     {

@@ -2,11 +2,11 @@
 
 ghost use Rattle.std.specs.Prelude.{◌≡◌, ◌↔◌, ◌≤◌, IfOk, IsTrue};
 ghost use Rattle.mw_model.specs.Pictures.{IsPicture};
-ghost use Rattle.mw_model.specs.Places.{IsWithin};
+ghost use Rattle.mw_model.specs.Rectangles.{IsWithin};
 ghost use Rattle.mw_step_task.specs.mw_tile.Windows.{window_of};
 ghost use Rattle.mw_tile_planes.specs.Tiles.{AllPlaced, IsPlaneOf};
 ghost use Rattle.mw_tile_planes.specs.Filled.{filled};
-ghost use Rattle.mw_tile_planes.specs.Views.{Shows};
+ghost use Rattle.mw_tile_planes.specs.Views.{ShowsInTiles};
 
 use crate::{TiledPlane, TilesView};
 use mw_model::{Kind, NoMemory, Rect};
@@ -30,9 +30,9 @@ impl Model for WholePlane {
 
     ghost view = { λ p. filled p.plane };
 
-    ghost use Rattle.mw_tile_planes.specs.Tiles.{AllPlaced, IsSound};
+    ghost use Rattle.mw_tile_planes.specs.Tiles.{AllPlaced, TiledIsSound};
 
-    ghost invariant = { λ p. AllPlaced p.plane × IsSound p.plane };
+    ghost invariant = { λ p. AllPlaced p.plane × TiledIsSound p.plane };
 }
 
 impl WholePlane {
@@ -97,7 +97,7 @@ impl WholePlane {
 
     /// The tiles, to be looked at.
     pub fn view(&self) -> TilesView<'_>
-        ensures shows { Shows self.now result }
+        ensures shows { ShowsInTiles self.now result }
         ensures picture { IsPicture self.now }
     {
         self.plane.view()
@@ -111,7 +111,7 @@ impl WholePlane {
         Ok(image)
     }
 
-    /// The same image, as one more owner of each tile.
+    /// This image once more, as one more owner of each tile.
     pub fn share(&self, alloc: Global) -> Result<WholePlane, NoMemory>
         ensures { IfOk result (λ p. p ≡ self.now) }
     {

@@ -2,14 +2,14 @@
 use Rattle.std.proofs.Common.{◌≡◌, ℕ, ◌+◌, ◌-◌, ◌*◌, ◌<◌, ◌≤◌, List, length, slice_get, sym, ap, arith, ◌∙◌, inl, inr, refl}
 use Rattle.std.proofs.lemmas.Bool.{cases_lt}
 use Rattle.mw_model.proofs.mw_facts.Elements.{same_elements}
-use Rattle.mw_model.specs.declared.places.Rect.{Rect}
-use Rattle.mw_model.specs.Places.{Holds}
+use Rattle.mw_model.specs.declared.offsets.Rect.{Rect}
+use Rattle.mw_model.specs.Rectangles.{Holds}
 use Rattle.mw_model.specs.Rasters.{Raster, raster}
 use Rattle.mw_tile_pieces.specs.mw_tile.Windows.{IsCut}
 use Rattle.mw_tile_pieces.specs.mw_tile.Cuts.{view_of}
 use Rattle.mw_tile_pieces.specs.Patches.{Patch, patch, cell_of, frame_value, IsFull}
 use Rattle.mw_tile_pieces.proofs.Patches.{row_of_plane, run_in, run_of_own, run_size, size_of_own, RowIs}
-use Rattle.mw_tile_slots.specs.Tiles.{ShowsRun, StandsIn}
+use Rattle.mw_tile_slots.specs.Tiles.{HasSidesOf, ShowsRun}
 use Rattle.mw_tile_slots.proofs.Sharing.{cut_cell}
 
 -- a part of a row of a piece, and that of a tile
@@ -20,7 +20,7 @@ pub record PartOf {A : Type 0} (f : Raster A) (p : Patch A) (x y n : ℕ) (row h
   pub other_size : length held ≡ n
 
 pub part_of : {A : Type 0} (f t own : Raster A) (p : Patch A) (stands place : Rect) (a b x y n : ℕ) → own ≡ raster p.place.width p.place.height p.cells → stands ≡ p.place → IsFull p → p.place.x ≤ x → x + n ≤ p.place.x + p.place.width → p.place.y ≤ y → y < p.place.y + p.place.height
-    → StandsIn place t → IsCut (view_of a b place t.cells) f → Holds place x y → x + n ≤ place.x + place.width → PartOf f p x y n (run_in own.cells stands own.width x y n) (run_in t.cells place t.width x y n)
+    → HasSidesOf place t → IsCut (view_of a b place t.cells) f → Holds place x y → x + n ≤ place.x + place.width → PartOf f p x y n (run_in own.cells stands own.width x y n) (run_in t.cells place t.width x y n)
 part_of {A} f t own p stands place a b x y n own-is stands-is full left right top bottom in-place cut holds fits =
     let from = holds.left in
     let above = holds.top in

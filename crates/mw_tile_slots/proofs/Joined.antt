@@ -2,8 +2,8 @@
 use Rattle.std.proofs.Common.{◌≡◌, ℕ, ◌+◌, ◌-◌, ◌*◌, ◌/◌, ◌%◌, ◌<◌, ◌≤◌, List, length, Option, IsSome, slice_get, refl, sym, ap, subst, arith, ◌∙◌, inl, inr}
 use Rattle.mw_model.proofs.mw_facts.Elements.{same_elements}
 use Rattle.mw_model.proofs.mw_facts.Numbers.{below_or_last}
-use Rattle.mw_model.specs.declared.places.Rect.{Rect}
-use Rattle.mw_model.specs.Places.{Holds}
+use Rattle.mw_model.specs.declared.offsets.Rect.{Rect}
+use Rattle.mw_model.specs.Rectangles.{Holds}
 use Rattle.mw_model.specs.Rasters.{Raster, raster}
 use Rattle.mw_model.proofs.ImagePlaces.{by_places}
 use Rattle.mw_grid.specs.Grids.{Tiling, columns_of, tile_count, tile_at}
@@ -12,7 +12,7 @@ use Rattle.mw_grid.proofs.Tiles.{HasTiles, tile_begins}
 use Rattle.mw_tile_pieces.specs.mw_tile.Windows.{IsCut}
 use Rattle.mw_tile_pieces.specs.mw_tile.Cuts.{view_of, Pastes}
 use Rattle.mw_tile_pieces.specs.Patches.{patch, cell_of, frame_value}
-use Rattle.mw_tile_slots.specs.Tiles.{number_at, tile_cells, HasAll, ShowsTiles}
+use Rattle.mw_tile_slots.specs.Tiles.{tile_number_at, tile_cells, HasAll, ShowsTiles}
 use Rattle.mw_tile_slots.proofs.Numbers.{number_holds, number_only, number_within}
 use Rattle.mw_tile_slots.proofs.Sharing.{cut_cell}
 
@@ -21,7 +21,7 @@ pub record HasFirstTiles {A : Type 0} (g : Tiling) (tiles : List (Option (List A
   pub width : p.width ≡ g.width
   pub height : p.height ≡ g.height
   pub size : length p.cells ≡ g.height * g.width
-  pub shows : (f : Raster A) → ShowsTiles g tiles f → (x y : ℕ) → x < g.width → y < g.height → number_at g x y < i → slice_get p.cells (y * g.width + x) ≡ frame_value f x y
+  pub shows : (f : Raster A) → ShowsTiles g tiles f → (x y : ℕ) → x < g.width → y < g.height → tile_number_at g x y < i → slice_get p.cells (y * g.width + x) ≡ frame_value f x y
 
 pub no_tiles_yet : {A : Type 0} (g : Tiling) (tiles : List (Option (List A))) (p : Raster A) → p.width ≡ g.width → p.height ≡ g.height → length p.cells ≡ p.height * p.width → HasFirstTiles g tiles 0 p
 no_tiles_yet g tiles p width height size = record {
@@ -32,8 +32,8 @@ no_tiles_yet g tiles p width height size = record {
 }
 
 -- a place of a tile, and what stands there
-number_here : (g : Tiling) (i x y : ℕ) → HasTiles g → x < g.width → y < g.height → number_at g x y ≡ i → Holds (tile_at g i) x y
-number_here g i x y has across down is = subst (λ (n : ℕ). Holds (tile_at g n) x y) is (number_holds g x y (number_at g x y) g.side (columns_of g) has across down refl refl refl)
+number_here : (g : Tiling) (i x y : ℕ) → HasTiles g → x < g.width → y < g.height → tile_number_at g x y ≡ i → Holds (tile_at g i) x y
+number_here g i x y has across down is = subst (λ (n : ℕ). Holds (tile_at g n) x y) is (number_holds g x y (tile_number_at g x y) g.side (columns_of g) has across down refl refl refl)
 
 -- what was pasted stands in the rectangle
 pasted_at : {A : Type 0} (now out t : Raster A) (r : Rect) (w x y : ℕ) → now.width ≡ w → Pastes now out t r → Holds r x y → slice_get out.cells (y * w + x) ≡ cell_of (patch r t.cells) x y
@@ -55,7 +55,7 @@ tile_more {A} g tiles i t now out r has lt r-is cut pastes before = record {
   width = pastes.width ∙ before.width;
   height = pastes.height ∙ before.height;
   size = pastes.size ∙ before.size;
-  shows = λ f shows x y across down below. elim (below_or_last i (number_at g x y) below) [
+  shows = λ f shows x y across down below. elim (below_or_last i (tile_number_at g x y) below) [
     | inl earlier ↦
         ap (λ (v : ℕ). slice_get out.cells (y * v + x)) (sym before.width)
         ∙ pastes.outside x y (let w = before.width in omega arith) (elsewhere x y earlier)
@@ -70,10 +70,10 @@ tile_more {A} g tiles i t now out r has lt r-is cut pastes before = record {
     here : Pastes now out t (tile_at g i)
     here = subst (Pastes now out t) r-is pastes
 
-    elsewhere : (x y : ℕ) → number_at g x y < i → Holds r x y → ⊥
+    elsewhere : (x y : ℕ) → tile_number_at g x y < i → Holds r x y → ⊥
     elsewhere x y earlier holds =
         let some = has.some in
-        let same : number_at g x y ≡ i = number_only g i x y some (subst (λ (q : Rect). Holds q x y) r-is holds) in
+        let same : tile_number_at g x y ≡ i = number_only g i x y some (subst (λ (q : Rect). Holds q x y) r-is holds) in
         absurd (omega arith)
 
 -- each tile has a place of the frame
@@ -108,5 +108,5 @@ all_tiles {A} g tiles i p has all first f size shows =
         let h = shows.height in
         let x-lt : x < g.width = omega arith in
         let y-lt : y < g.height = omega arith in
-        let lt : number_at g x y < tile_count g = number_within g x y (number_at g x y) g.side (columns_of g) has x-lt y-lt refl refl refl in
+        let lt : tile_number_at g x y < tile_count g = number_within g x y (tile_number_at g x y) g.side (columns_of g) has x-lt y-lt refl refl refl in
         ap (λ (t : ℕ). slice_get p.cells (y * t + x)) w ∙ first.shows f shows x y x-lt y-lt (omega arith)

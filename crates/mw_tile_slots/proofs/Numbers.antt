@@ -3,8 +3,8 @@ use Rattle.std.proofs.Common.{◌≡◌, ℕ, ◌+◌, ◌-◌, ◌*◌, ◌/◌
 use Rattle.std.proofs.Math.Nat.{lt-div-mul-add, mul-le-mul_left}
 use Rattle.std.proofs.lemmas.Nat.{div-add-mod', div-mul-add, mod-mul-add}
 use Rattle.std.proofs.lemmas.List.{get_or_default}
-use Rattle.mw_model.specs.declared.places.Rect.{Rect}
-use Rattle.mw_model.specs.Places.{Holds}
+use Rattle.mw_model.specs.declared.offsets.Rect.{Rect}
+use Rattle.mw_model.specs.Rectangles.{Holds}
 use Rattle.mw_model.specs.Rasters.{Raster}
 use Rattle.mw_model.specs.Windows.{View}
 use Rattle.mw_grid.specs.Grids.{Tiling, columns_of, rows_of, tile_count, tile_at}
@@ -12,7 +12,7 @@ use Rattle.mw_grid.proofs.Lines.{piece_begins, piece_has, piece_counts, piece_on
 use Rattle.mw_grid.proofs.Tiles.{HasTiles}
 use Rattle.mw_tile_pieces.specs.mw_tile.Windows.{IsCut}
 use Rattle.mw_tile_pieces.specs.mw_tile.Cuts.{view_of}
-use Rattle.mw_tile_slots.specs.Tiles.{HasSides, ShowsTiles, StandsIn, cells_of, number_at}
+use Rattle.mw_tile_slots.specs.Tiles.{HasSides, HasSidesOf, ShowsTiles, cells_of, tile_number_at}
 use Rattle.mw_tile_slots.proofs.Sides.{cells_at}
 
 pub number_within : (g : Tiling) (x y n side columns : ℕ) → HasTiles g → x < g.width → y < g.height → n ≡ y / side * columns + x / side → side ≡ g.side → columns ≡ columns_of g → n < tile_count g
@@ -89,7 +89,7 @@ columns_fill g k has le =
     omega (arith, mul-le-mul_left g.side le)
 
 -- a tile has each of its places alone
-pub number_only : (g : Tiling) (i x y : ℕ) → 0 < g.side → Holds (tile_at g i) x y → number_at g x y ≡ i
+pub number_only : (g : Tiling) (i x y : ℕ) → 0 < g.side → Holds (tile_at g i) x y → tile_number_at g x y ≡ i
 number_only g i x y some holds =
     let left = holds.left in
     let right = holds.right in
@@ -106,12 +106,12 @@ pub found_at : {A : Type 0} (g : Tiling) (tiles : List (Option (Raster A))) (i :
 found_at g tiles i o t p has read is p-is lt = get_or_default tiles i None o (let count = has.count in omega arith) ∙ sym read ∙ is ∙ ap Some (sym p-is)
 
 pub stands_at : {A : Type 0} (g : Tiling) (tiles : List (Option (Raster A))) (i : ℕ) (o : Option (Raster A)) (t p : Raster A) (r : Rect) → HasSides g tiles → o ≡ get_or tiles i o → o ≡ Some t → p ≡ t → r ≡ tile_at g i → i < tile_count g
-    → StandsIn r p
-stands_at g tiles i o t p r has read is p-is r-is lt = subst (λ (s : Rect). StandsIn s p) (sym r-is) (has.sides i p (found_at g tiles i o t p has read is p-is lt))
+    → HasSidesOf r p
+stands_at g tiles i o t p r has read is p-is r-is lt = subst (λ (s : Rect). HasSidesOf s p) (sym r-is) (has.sides i p (found_at g tiles i o t p has read is p-is lt))
 
 -- the tile that was read from the list at its number stands in its rectangle
-pub whole_stands : {A : Type 0} (g : Tiling) (tiles : List (Option (Raster A))) (i : ℕ) (o : Option (Raster A)) (t : Raster A) (q r : Rect) → HasSides g tiles → o ≡ get_or tiles i o → o ≡ Some t → q ≡ tile_at g i → q ≡ r → i < tile_count g → StandsIn r t
-whole_stands g tiles i o t q r has read is q-is same lt = subst (λ (s : Rect). StandsIn s t) (sym q-is ∙ same) (has.sides i t (found_at g tiles i o t t has read is refl lt))
+pub whole_stands : {A : Type 0} (g : Tiling) (tiles : List (Option (Raster A))) (i : ℕ) (o : Option (Raster A)) (t : Raster A) (q r : Rect) → HasSides g tiles → o ≡ get_or tiles i o → o ≡ Some t → q ≡ tile_at g i → q ≡ r → i < tile_count g → HasSidesOf r t
+whole_stands g tiles i o t q r has read is q-is same lt = subst (λ (s : Rect). HasSidesOf s t) (sym q-is ∙ same) (has.sides i t (found_at g tiles i o t t has read is refl lt))
 
 -- and is what each whole frame with these tiles has there
 pub whole_shows : {A : Type 0} (g : Tiling) (tiles : List (Option (Raster A))) (i : ℕ) (o : Option (Raster A)) (t : Raster A) (q r : Rect) → HasSides g tiles → o ≡ get_or tiles i o → o ≡ Some t → q ≡ tile_at g i → q ≡ r → i < tile_count g

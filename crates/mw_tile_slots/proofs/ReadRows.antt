@@ -4,15 +4,15 @@ use Rattle.std.proofs.lemmas.List.{length-take-le}
 use Rattle.mw_model.proofs.mw_facts.Elements.{same_elements, slice_get-drop, slice_get-take}
 use Rattle.mw_model.proofs.mw_facts.Parts.{length-put_mid}
 use Rattle.mw_grid.specs.Grids.{Tiling}
-use Rattle.mw_model.specs.declared.places.Rect.{Rect}
-use Rattle.mw_model.specs.Places.{Holds}
+use Rattle.mw_model.specs.declared.offsets.Rect.{Rect}
+use Rattle.mw_model.specs.Rectangles.{Holds}
 use Rattle.mw_model.specs.Rasters.{Raster, raster}
 use Rattle.mw_tile_pieces.specs.Patches.{patch, cell_of, frame_value}
 use Rattle.mw_tile_pieces.proofs.Patches.{row_of_plane, run_in, run_size, RowIs}
 use Rattle.mw_tile_pieces.specs.mw_tile.Windows.{IsCut}
 use Rattle.mw_tile_pieces.specs.mw_tile.Cuts.{view_of}
 use Rattle.mw_tile_slots.specs.Rows.{AreCutFrom, HasFirstOfRow, TileCells}
-use Rattle.mw_tile_slots.specs.Tiles.{ShowsTiles, StandsIn}
+use Rattle.mw_tile_slots.specs.Tiles.{HasSidesOf, ShowsTiles}
 use Rattle.mw_tile_slots.proofs.Sharing.{cut_cell}
 use Rattle.mw_tile_pieces.specs.mw_pixel_words.Runs.{put_at}
 use Rattle.mw_tile_pieces.proofs.mw_pixel_words.Bits.{rows_fit}
@@ -24,7 +24,7 @@ no_cells_yet g tiles y p width height size =
     record { width = width; height = height; size = all; shows = λ f shows. record { size = all; same = λ k lt. absurd (omega arith) } }
 
 -- one tile more
-pub row_more : {A : Type 0} (g : Tiling) (tiles : List (Option (List A))) (t now out : Raster A) (place : Rect) (y at n a : ℕ) → StandsIn place t → Holds place at y → at + n ≤ place.x + place.width → at + n ≤ g.width
+pub row_more : {A : Type 0} (g : Tiling) (tiles : List (Option (List A))) (t now out : Raster A) (place : Rect) (y at n a : ℕ) → HasSidesOf place t → Holds place at y → at + n ≤ place.x + place.width → at + n ≤ g.width
     → ((f : Raster A) → ShowsTiles g tiles f → IsCut (view_of g.width g.height place t.cells) f) → a ≡ (y - place.y) * t.width + (at - place.x) → out ≡ raster now.width now.height (put_at (0 * now.width + at) (slice_range t.cells a (a + n)) now.cells)
     → HasFirstOfRow g tiles y at now → HasFirstOfRow g tiles y (at + n) out
 row_more {A} g tiles t now out place y at n a stands holds fits room cut a-is out-is before =

@@ -7,18 +7,18 @@ use Rattle.std.proofs.lemmas.List.Folds.{list_any-append}
 use Rattle.std.proofs.lemmas.Nat.{le-div}
 use Rattle.std.proofs.Math.Nat.{div-mul-le_self}
 use Rattle.mw_model.proofs.mw_facts.Alls.{all-push, all-weaker}
-use Rattle.mw_model.specs.declared.places.Rect.{Rect}
-use Rattle.mw_model.specs.Places.{Holds, IsWithin}
+use Rattle.mw_model.specs.declared.offsets.Rect.{Rect}
+use Rattle.mw_model.specs.Rectangles.{Holds, IsWithin}
 use Rattle.mw_model.specs.Rasters.{Raster}
 use Rattle.mw_grid.specs.Grids.{Tiling, columns_of, rows_of, tile_at, tile_count}
 use Rattle.mw_grid.proofs.Lines.{number_of}
 use Rattle.mw_grid.proofs.Tiles.{HasTiles, tile_within}
 use Rattle.mw_tile_pieces.specs.mw_tile.Windows.{IsCut}
 use Rattle.mw_tile_pieces.specs.mw_tile.Cuts.{view_of}
-use Rattle.mw_tile_pieces.specs.Patches.{Patch, Joint, IsJoint, IsInside, IsPatchOf, ShowsFrame, ShowsIn, Covers, cell_of, frame_value, has_place, held_in, joint, overlap_of, patch}
+use Rattle.mw_tile_pieces.specs.Patches.{Patch, Joint, IsJoint, IsInside, IsPatchOf, ShowsFrame, ShowsIn, PiecesCover, cell_of, frame_value, has_place, held_in, joint, overlap_of, patch}
 use Rattle.mw_tile_pieces.proofs.Patches.{agree, has_yes, values_of_shows}
 use Rattle.mw_tile_slots.specs.Shares.{AddsTiles, AreTilesMet, IsTileOf}
-use Rattle.mw_tile_slots.specs.Tiles.{HasAll, HasAlong, HasSides, HasSizes, ShowsTiles, cells_of, number_at, tile_cells}
+use Rattle.mw_tile_slots.specs.Tiles.{HasAll, HasAlong, HasSides, HasSizes, ShowsTiles, cells_of, tile_cells, tile_number_at}
 use Rattle.mw_tile_slots.proofs.Numbers.{number_holds, number_only, number_within}
 use Rattle.mw_tile_slots.proofs.Sides.{none_there, sizes_of_sides}
 
@@ -111,7 +111,7 @@ rows_are_met g tiles r side left right top bottom ps has within side-is left-is 
       let to-x : x / k ≤ (r.x + r.width - 1) / k = div_rises x (r.x + r.width - 1) k some-k (omega arith) in
       let from-y : r.y / k ≤ y / k = div_rises r.y y k some-k c in
       let to-y : y / k ≤ (r.y + r.height - 1) / k = div_rises y (r.y + r.height - 1) k some-k (omega arith) in
-      let number : number_at g x y ≡ i = number_only g i x y some-k here in
+      let number : tile_number_at g x y ≡ i = number_only g i x y some-k here in
       rows.met (x / k) (y / k) x y (rw (left-is, side-is) from-x) (rw (right-is, side-is) (omega arith)) (rw (top-is, side-is) from-y) (rw (bottom-is, side-is) (omega arith))
       (subst (λ n. Holds (tile_at g n) x y) (sym number) here) (subst (λ n. IsSome (tile_cells tiles n)) (sym number) some);
 }
@@ -125,7 +125,7 @@ cell_there (Some cells) k = slice_get cells k
 
 abbrev tile_value : {A : Type 0} → Tiling → List (Option (List A)) → ℕ → ℕ → Option A
 tile_value g tiles x y =
-    let n = number_at g x y in
+    let n = tile_number_at g x y in
     cell_there (tile_cells tiles n) ((y - (tile_at g n).y) * (tile_at g n).width + (x - (tile_at g n).x))
 
 tile_shows : {A : Type 0} (g : Tiling) (tiles : List (Option (List A))) (r : Rect) (p : Patch A) → 0 < g.side → IsTileOf g tiles p → ShowsIn r (tile_value g tiles) p
@@ -163,7 +163,7 @@ tile_patch g tiles p has sizes of = record {
   full = sizes of.number p.cells of.within of.cells ∙ ap (λ (r : Rect). r.height * r.width) (sym of.place);
 }
 
-covered : {A : Type 0} (g : Tiling) (tiles : List (Option (List A))) (r : Rect) (ps : List (Patch A)) → HasTiles g → IsWithin r g.width g.height → HasAll g tiles r → AreTilesMet g tiles r ps → Covers r ps
+covered : {A : Type 0} (g : Tiling) (tiles : List (Option (List A))) (r : Rect) (ps : List (Patch A)) → HasTiles g → IsWithin r g.width g.height → HasAll g tiles r → AreTilesMet g tiles r ps → PiecesCover r ps
 covered g tiles r ps has within placed met x y holds =
     let right = holds.right in
     let bottom = holds.bottom in
@@ -171,7 +171,7 @@ covered g tiles r ps has within placed met x y holds =
     let down = within.down in
     let wide : x < g.width = omega arith in
     let high : y < g.height = omega arith in
-    let i = number_at g x y in
+    let i = tile_number_at g x y in
     let lt : i < tile_count g = number_within g x y i g.side (columns_of g) has wide high refl refl refl in
     let here : Holds (tile_at g i) x y = number_holds g x y i g.side (columns_of g) has wide high refl refl refl in
     met.met i x y lt holds here (placed x y holds i lt here)

@@ -8,7 +8,7 @@ use Rattle.std.proofs.lemmas.Option.{same_Some}
 use Rattle.mw_model.proofs.mw_facts.Elements.{get_or-replicate_same}
 use Rattle.mw_model.specs.Rasters.{Raster}
 use Rattle.mw_grid.specs.Grids.{Tiling, tile_count, tile_at}
-use Rattle.mw_tile_slots.specs.Tiles.{cells_of, tile_cells, cells_in_raster, StandsIn, HasSides, HasSizes}
+use Rattle.mw_tile_slots.specs.Tiles.{cells_of, tile_cells, cells_in_raster, HasSidesOf, HasSides, HasSizes}
 
 -- the cells of a tile that is placed
 pub cells_at : {A : Type 0} (tiles : List (Option (Raster A))) (i : ℕ) (t : Raster A) → get_or tiles i None ≡ Some t → tile_cells (cells_of tiles) i ≡ Some t.cells
@@ -28,14 +28,14 @@ one_of P (x ∷ xs) zero (suc j) v d here there = there
 one_of P (x ∷ xs) (suc i) zero v d here there = there
 one_of P (x ∷ xs) (suc i) (suc j) v d here there = one_of (λ n a. P (suc n) a) xs i j v d here there
 
-pub sides_set : {A : Type 0} (g : Tiling) (tiles : List (Option (Raster A))) (i : ℕ) (t : Option (Raster A)) → HasSides g tiles → IfSome t (StandsIn (tile_at g i)) → HasSides g (set tiles i t)
+pub sides_set : {A : Type 0} (g : Tiling) (tiles : List (Option (Raster A))) (i : ℕ) (t : Option (Raster A)) → HasSides g tiles → IfSome t (HasSidesOf (tile_at g i)) → HasSides g (set tiles i t)
 sides_set {A} g tiles i t has fits = record {
   count = length-set tiles i t ∙ has.count;
-  sides = λ j. one_of (λ j o. (f : Raster A) → o ≡ Some f → StandsIn (tile_at g j) f) tiles i j t None (λ f e. given t f fits e) (has.sides j);
+  sides = λ j. one_of (λ j o. (f : Raster A) → o ≡ Some f → HasSidesOf (tile_at g j) f) tiles i j t None (λ f e. given t f fits e) (has.sides j);
 }
   where
-    given : (t : Option (Raster A)) (f : Raster A) → IfSome t (StandsIn (tile_at g i)) → t ≡ Some f → StandsIn (tile_at g i) f
-    given t f fits e = subst (λ (o : Option (Raster A)). IfSome o (StandsIn (tile_at g i))) e fits
+    given : (t : Option (Raster A)) (f : Raster A) → IfSome t (HasSidesOf (tile_at g i)) → t ≡ Some f → HasSidesOf (tile_at g i) f
+    given t f fits e = subst (λ (o : Option (Raster A)). IfSome o (HasSidesOf (tile_at g i))) e fits
 
 pub sides_none : {A : Type 0} (g : Tiling) (tiles : List (Option (Raster A))) (n : ℕ) → tiles ≡ replicate n None → n ≡ tile_count g → HasSides g tiles
 sides_none {A} g tiles n tiles-is n-is = record {

@@ -1,8 +1,8 @@
 -- Tiles that are shared as the pieces of a window (own).
 use Rattle.std.specs.Prelude.{◌≡◌, ℕ, ◌<◌, ◌≤◌, true, List, Option, Some, IsSome}
 use Rattle.std.specs.List.{AllByRecursion}
-use Rattle.mw_model.specs.declared.places.Rect.{Rect}
-use Rattle.mw_model.specs.Places.{Holds}
+use Rattle.mw_model.specs.declared.offsets.Rect.{Rect}
+use Rattle.mw_model.specs.Rectangles.{Holds}
 use Rattle.mw_grid.specs.Grids.{Tiling, tile_at, tile_count}
 use Rattle.mw_tile_pieces.specs.Patches.{Patch, held_in}
 use Rattle.mw_tile_slots.specs.Tiles.{tile_cells}

@@ -1,7 +1,7 @@
 -- Tiles of a frame, some of which are missing, and of which whole frames they are parts (own).
 use Rattle.std.specs.Prelude.{◌≡◌, ℕ, ◌+◌, ◌*◌, ◌/◌, ◌<◌, ◌≤◌, List, length, map, Option, Some, None, IsSome, option_map, slice_index_or}
-use Rattle.mw_model.specs.declared.places.Rect.{Rect}
-use Rattle.mw_model.specs.Places.{Holds}
+use Rattle.mw_model.specs.declared.offsets.Rect.{Rect}
+use Rattle.mw_model.specs.Rectangles.{Holds}
 use Rattle.mw_model.specs.Rasters.{Raster}
 use Rattle.mw_grid.specs.Grids.{Tiling, columns_of, tile_at, tile_count}
 use Rattle.mw_tile_pieces.specs.mw_tile.Windows.{IsCut}
@@ -20,11 +20,11 @@ abbrev pub cells_of : {A : Type 0} → List (Option (Raster A)) → List (Option
 cells_of tiles = map (option_map cells_in_raster) tiles
 
 -- the number of the tile that has a place
-abbrev pub number_at : Tiling → ℕ → ℕ → ℕ
-number_at g x y = y / g.side * columns_of g + x / g.side
+abbrev pub tile_number_at : Tiling → ℕ → ℕ → ℕ
+tile_number_at g x y = y / g.side * columns_of g + x / g.side
 
 -- the samples have the sides of the rectangle
-pub record StandsIn {A : Type 0} (r : Rect) (f : Raster A) : Type 0 where
+pub record HasSidesOf {A : Type 0} (r : Rect) (f : Raster A) : Type 0 where
   pub width : f.width ≡ r.width
   pub height : f.height ≡ r.height
   pub size : length f.cells ≡ r.height * r.width
@@ -32,7 +32,7 @@ pub record StandsIn {A : Type 0} (r : Rect) (f : Raster A) : Type 0 where
 -- each tile of the grid has a place in the list, and each that is placed has its sides
 pub record HasSides {A : Type 0} (g : Tiling) (tiles : List (Option (Raster A))) : Type 0 where
   pub count : length tiles ≡ tile_count g
-  pub sides : (i : ℕ) (f : Raster A) → slice_index_or tiles i None ≡ Some f → StandsIn (tile_at g i) f
+  pub sides : (i : ℕ) (f : Raster A) → slice_index_or tiles i None ≡ Some f → HasSidesOf (tile_at g i) f
 
 -- the cells of each tile that is placed fill its rectangle
 abbrev pub HasSizes : {A : Type 0} → Tiling → List (Option (List A)) → Type 0

@@ -2,7 +2,7 @@
 //! it is compared with that tile row by row; another is compared row part by row part.
 
 ghost use Rattle.std.specs.Prelude.{◌↔◌, ◌+◌, ◌<◌, ◌≤◌, IsTrue};
-ghost use Rattle.mw_model.specs.Places.{IsWithin};
+ghost use Rattle.mw_model.specs.Rectangles.{IsWithin};
 ghost use Rattle.mw_model.specs.Rasters.{Raster};
 ghost use Rattle.mw_tile_pieces.specs.Patches.{frame_value, IsPatchOf, ShowsFrame, ShowsIn};
 ghost use Rattle.mw_tile_slots.specs.Tiles.{cells_of, HasAll, HasAlong, HasSides, ShowsRun, ShowsTiles};
@@ -58,7 +58,7 @@ fn is_piece<P: Planar>(
     }
 }
 
-/// The same, where no tile stands in the piece's place.
+/// Whether the piece shows row by row what the tiles have, where no tile stands in the piece's place.
 fn has_rows<P: Planar>(
     grid: Grid,
     tiles: &[Option<Placed<P>>],

@@ -2,11 +2,11 @@
 
 ghost use Rattle.std.specs.Prelude.{◌+◌, ◌*◌, ◌<◌, IfSome, IsSome};
 ghost use Rattle.mw_model.specs.Rasters.{Raster};
-ghost use Rattle.mw_model.specs.Places.{Holds};
+ghost use Rattle.mw_model.specs.Rectangles.{Holds};
 ghost use Rattle.mw_grid.specs.Grids.{tile_at, tile_count};
 ghost use Rattle.mw_tile_pieces.specs.mw_tile.Windows.{IsCut};
 ghost use Rattle.mw_tile_pieces.specs.mw_tile.Cuts.{view_of};
-ghost use Rattle.mw_tile_slots.specs.Tiles.{cells_of, tile_cells, HasSides, ShowsTiles, StandsIn};
+ghost use Rattle.mw_tile_slots.specs.Tiles.{cells_of, tile_cells, HasSides, ShowsTiles, HasSidesOf};
 
 use crate::placed::Placed;
 use mw_grid::Grid;
@@ -32,7 +32,7 @@ pub(crate) fn whole_tile<P: Planar>(
     rect: Rect,
 ) -> Option<&Placed<P>>
     requires { HasSides grid tiles.now }
-    ensures stands { IfSome result (λ t. StandsIn rect t.now) }
+    ensures stands { IfSome result (λ t. HasSidesOf rect t.now) }
     ensures value { IfSome result (λ t. (f : Raster P) → ShowsTiles grid (cells_of tiles.now) f → IsCut (view_of grid.width grid.height rect t.now.cells) f) }
 {
     if rect.x >= grid.width() || rect.y >= grid.height() {
@@ -53,7 +53,7 @@ pub(crate) fn tile_of<P: Planar>(grid: Grid, tiles: &[Option<Placed<P>>], i: u32
     requires sides { HasSides grid tiles.now }
     requires within { i < tile_count grid }
     requires placed { IsSome (tile_cells (cells_of tiles.now) i) }
-    ensures stands { StandsIn (tile_at grid i) result.now }
+    ensures stands { HasSidesOf (tile_at grid i) result.now }
     ensures value { (f : Raster P) → ShowsTiles grid (cells_of tiles.now) f → IsCut (view_of grid.width grid.height (tile_at grid i) result.now.cells) f }
 {
     match &tiles[i as usize] {

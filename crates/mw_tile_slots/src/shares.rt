@@ -2,7 +2,7 @@
 
 ghost use Rattle.std.specs.Prelude.{◌≡◌, ◌+◌, ◌-◌, ◌/◌, ◌<◌, ◌≤◌, IfOk};
 ghost use Rattle.mw_model.specs.declared.limits.TheConstants.{SIDE_LIMIT};
-ghost use Rattle.mw_model.specs.Places.{IsWithin};
+ghost use Rattle.mw_model.specs.Rectangles.{IsWithin};
 ghost use Rattle.mw_model.specs.Rasters.{Raster};
 ghost use Rattle.mw_grid.specs.Grids.{tile_count};
 ghost use Rattle.mw_tile_pieces.specs.Patches.{ShowsFrame};

@@ -2,7 +2,7 @@
 
 ghost use Rattle.std.specs.Prelude.{◌≡◌, ◌<◌, None, IfOk, IfSome, option_map, replicate, slice_set};
 ghost use Rattle.mw_grid.specs.Grids.{tile_at, tile_count};
-ghost use Rattle.mw_tile_slots.specs.Tiles.{cells_in_raster, cells_of, HasSides, StandsIn};
+ghost use Rattle.mw_tile_slots.specs.Tiles.{cells_in_raster, cells_of, HasSides, HasSidesOf};
 
 use crate::placed::Placed;
 use mw_grid::Grid;
@@ -25,7 +25,7 @@ pub fn no_tiles<P: Planar>(alloc: Global, count: usize) -> Result<Vec<Option<Pla
 pub fn put<P: Planar>(grid: Grid, tiles: &mut [Option<Placed<P>>], i: u32, tile: Option<Placed<P>>)
     requires within { i < tile_count grid }
     requires sides { HasSides grid tiles.old }
-    requires fits { IfSome tile (StandsIn (tile_at grid i)) }
+    requires fits { IfSome tile (HasSidesOf (tile_at grid i)) }
     ensures sides { HasSides grid tiles.new }
     ensures value { cells_of tiles.new ≡ slice_set (cells_of tiles.old) i (option_map cells_in_raster tile) }
 {

@@ -1,5 +1,6 @@
 pub mod Writes
 pub mod Faults
+pub mod Failures
 pub mod Rooms
 pub mod Chains
 pub mod Runs

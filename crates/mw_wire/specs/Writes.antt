@@ -25,7 +25,7 @@ told_text (Err e) = refusal_text Memory
 abbrev pub EndsBy : {E : Type 0} → Option (List ℕ) → Option (List ℕ) → Code → Result End E → Type 0
 EndsBy old new c result = MatchResult result (λ e. (e ≡ Ended c) × Appends old new (refusal_text c)) (λ _. CutsShort old new (refusal_text c))
 
--- the same, where the session may also go on
+-- the end by a refusal, where the session may also go on
 abbrev pub EndedBy : {E : Type 0} → Option (List ℕ) → Option (List ℕ) → Code → Result (Option End) E → Type 0
 EndedBy old new c result =
     MatchResult result (λ o. (o ≡ Some (Ended c)) × Appends old new (refusal_text c)) (λ _. CutsShort old new (refusal_text c))

@@ -1,9 +1,10 @@
 //! What answers the requests of a session.
 
-ghost use Rattle.std.specs.Prelude.{◌≡◌, ◌≢◌, ℕ, List, OnOk, OnErr, Err, true};
+ghost use Rattle.std.specs.Prelude.{◌≢◌, ℕ, List};
 ghost use Rattle.mw_model.specs.declared.requests.Ask.TheVariants as Ask;
 ghost use Rattle.mw_model.specs.Lines.{AskAlone};
 ghost use Rattle.mw_session_intake.specs.Intake.{asked};
+ghost use Rattle.mw_wire.specs.Failures.{RemembersFailure};
 ghost use Rattle.mw_wire.specs.Writes.{Wrote};
 
 use crate::fault::SessionFault;
@@ -36,6 +37,5 @@ pub trait Handler {
         requires ready { ready }
         requires open_still { asked request ≢ AskAlone Ask.Quit }
         ensures answered { (text : List ℕ) × Answer kept.old (asked request) text kept.new × Wrote (W.contents sink.old.inner) (W.contents sink.new.inner) text result }
-        ensures same { OnOk result (sink.new.failed ≡ sink.old.failed) }
-        ensures flag { OnErr result ((result ≡ Err SessionFault.Write) × (sink.new.failed ≡ true)) };
+        ensures remembers { RemembersFailure sink.old.failed sink.new.failed result };
 }

@@ -25,4 +25,4 @@ pub use reply::{curve_line, image_line, refusal_line, reply_line};
 pub use saying::{end_by, end_within, say, say_curve, say_image, say_told, send_both, tell};
 pub use session::run_session;
 pub use sink::{Sink, pass_on, send};
-pub use source::{READ_LIMIT, Source, receive};
+pub use source::{Source, receive};

@@ -1,11 +1,12 @@
 //! A whole session, from a reader to a writer.
 
-ghost use Rattle.std.specs.Prelude.{◌≡◌, ◌≢◌, ◌≤◌, ◌<◌, ◌⊎◌, ◌↔◌, [], ◌++◌, length, ℕ, List, Option, None, OnOk, OnErr, IfOk, Ok, Err, IsTrue, false, true};
+ghost use Rattle.std.specs.Prelude.{◌≡◌, ◌≢◌, ◌<◌, ◌↔◌, [], ◌++◌, length, ℕ, List, Option, None, IfOk, Ok, IsTrue, false};
 ghost use Rattle.std.specs.Io.KnownBytes.{Appends};
 ghost use Rattle.mw_model.specs.declared.requests.Ask.TheVariants as Ask;
 ghost use Rattle.mw_model.specs.Lines.{AskAlone, Partial};
-ghost use Rattle.mw_session_intake.specs.Intake.{IsOpen, IsTidy, asked};
+ghost use Rattle.mw_session_intake.specs.Intake.{HasNoWholeLine, IsTidy, asked};
 ghost use Rattle.mw_session_intake.specs.Reading.{front};
+ghost use Rattle.mw_wire.specs.Failures.{IsUnread, RemembersFailure, TellsFailures};
 ghost use Rattle.mw_wire.specs.Writes.{EndsBy};
 ghost use Rattle.mw_wire.specs.Runs.{Drains, DeskRan};
 
@@ -13,8 +14,8 @@ use crate::desk::Handler;
 use crate::fault::SessionFault;
 use crate::saying::{end_by, end_within};
 use crate::sink::{Sink, pass_on};
-use crate::source::{READ_LIMIT, Source, receive};
-use mw_model::{Code, End, Next, NoMemory, Request};
+use crate::source::{Source, receive};
+use mw_model::{Code, End, Next, NoMemory, READ_LIMIT, Request};
 use mw_session_intake::Intake;
 use std::alloc::Global;
 use std::io::{Read, Write};
@@ -40,9 +41,8 @@ fn drain<W: Write, D: Handler>(
     requires tidy { IsTidy intake.old }
     ensures ran { (left : Option (List ℕ)) → Drains D.Answer left intake.old.bytes intake.new kept.old kept.new (W.contents sink.old.inner) (W.contents sink.new.inner) result }
     ensures waits { IfOk result (λ o. o ≡ None → front intake.new.bytes ≡ Partial) }
-    ensures is_open { IfOk result (λ o. o ≡ None → IsOpen intake.new) }
-    ensures same { OnOk result (sink.new.failed ≡ sink.old.failed) }
-    ensures flag { OnErr result ((result ≡ Err SessionFault.Write) × (sink.new.failed ≡ true)) }
+    ensures is_open { IfOk result (λ o. o ≡ None → HasNoWholeLine intake.new) }
+    ensures remembers { RemembersFailure sink.old.failed sink.new.failed result }
 {
     'requests: loop {
         match intake.next() {
@@ -72,12 +72,11 @@ fn serve_piece<W: Write, D: Handler>(
     requires ready { D.ready }
     requires some { 0 < length piece.now }
     requires served { front intake.old.bytes ≡ Partial }
-    requires is_open { IsOpen intake.old }
+    requires is_open { HasNoWholeLine intake.old }
     ensures ran { (left : Option (List ℕ)) → Drains D.Answer left (intake.old.bytes ++ piece.now) intake.new kept.old kept.new (W.contents sink.old.inner) (W.contents sink.new.inner) result }
     ensures waits { IfOk result (λ o. o ≡ None → front intake.new.bytes ≡ Partial) }
-    ensures is_open { IfOk result (λ o. o ≡ None → IsOpen intake.new) }
-    ensures same { OnOk result (sink.new.failed ≡ sink.old.failed) }
-    ensures flag { OnErr result ((result ≡ Err SessionFault.Write) × (sink.new.failed ≡ true)) }
+    ensures is_open { IfOk result (λ o. o ≡ None → HasNoWholeLine intake.new) }
+    ensures remembers { RemembersFailure sink.old.failed sink.new.failed result }
 {
     let mut at = 0;
     'portions: while at < piece.len() {
@@ -100,8 +99,7 @@ fn serve_piece<W: Write, D: Handler>(
 fn end_of_input<W: Write>(sink: &mut Sink<W>, intake: &Intake) -> Result<End, SessionFault>
     ensures quit { intake.now.bytes ≡ [] → (result ≡ Ok End.Quit) × Appends (W.contents sink.old.inner) (W.contents sink.new.inner) [] }
     ensures cut { intake.now.bytes ≢ [] → EndsBy (W.contents sink.old.inner) (W.contents sink.new.inner) Code.Cut result }
-    ensures same { OnOk result (sink.new.failed ≡ sink.old.failed) }
-    ensures flag { OnErr result ((result ≡ Err SessionFault.Write) × (sink.new.failed ≡ true)) }
+    ensures remembers { RemembersFailure sink.old.failed sink.new.failed result }
 {
     if intake.at_boundary() {
         return Ok(End::Quit);
@@ -118,16 +116,11 @@ fn serve_reads<R: Read, W: Write, D: Handler>(
     kept: &mut D::Kept,
 ) -> Result<End, SessionFault>
     requires ready { D.ready }
-    requires source_clear { source.old.failed ≡ false }
+    requires source_fresh { IsUnread source.old.failed source.old.reads }
     requires sink_clear { sink.old.failed ≡ false }
-    requires unread { source.old.reads ≡ 0 }
     // What was written is the answers to the requests in the bytes that were read, or what a fault left of it.
     ensures ran { DeskRan D.Answer kept.old kept.new (R.remaining source.old.inner) (R.remaining source.new.inner) (W.contents sink.old.inner) (W.contents sink.new.inner) result }
-    ensures few_reads { source.new.reads ≤ 4294967295 }
-    ensures read_fault { result ≡ Err SessionFault.Read → (source.new.failed ≡ true) ⊎ (source.new.reads ≡ 4294967295) }
-    ensures write_fault { result ≡ Err SessionFault.Write → sink.new.failed ≡ true }
-    ensures reader_failed { source.new.failed ≡ true → result ≡ Err SessionFault.Read }
-    ensures writer_failed { sink.new.failed ≡ true → result ≡ Err SessionFault.Write }
+    ensures failures { TellsFailures source.new.failed source.new.reads sink.new.failed result }
 {
     let mut intake = Intake::new(alloc);
     let mut buffer = match Vec::from_elem(alloc, 0u8, PIECE) {
@@ -152,7 +145,7 @@ fn serve_reads<R: Read, W: Write, D: Handler>(
 /// after another, and it passes them on before the next read and at the end: a writer that holds bytes back for a while
 /// makes few writes of them. Where a line or a payload is gathered, want of memory is `ERR 50 MEMORY` and ends the session.
 ///
-/// A session makes at most 4,294,967,295 reads, and makes one again that was interrupted.
+/// A session makes at most `READ_LIMIT` reads, and makes one again that was interrupted.
 pub fn run_session<R: Read, W: Write, D: Handler>(
     alloc: Global,
     source: &mut Source<R>,
@@ -161,16 +154,11 @@ pub fn run_session<R: Read, W: Write, D: Handler>(
     kept: &mut D::Kept,
 ) -> Result<End, SessionFault>
     requires ready { D.ready }
-    requires source_clear { source.old.failed ≡ false }
+    requires source_fresh { IsUnread source.old.failed source.old.reads }
     requires sink_clear { sink.old.failed ≡ false }
-    requires unread { source.old.reads ≡ 0 }
     // What was written is the answers to the requests in the bytes that were read, or what a fault left of it.
     ensures ran { DeskRan D.Answer kept.old kept.new (R.remaining source.old.inner) (R.remaining source.new.inner) (W.contents sink.old.inner) (W.contents sink.new.inner) result }
-    ensures few_reads { source.new.reads ≤ 4294967295 }
-    ensures read_fault { result ≡ Err SessionFault.Read → (source.new.failed ≡ true) ⊎ (source.new.reads ≡ 4294967295) }
-    ensures write_fault { result ≡ Err SessionFault.Write → sink.new.failed ≡ true }
-    ensures reader_failed { source.new.failed ≡ true → result ≡ Err SessionFault.Read }
-    ensures writer_failed { sink.new.failed ≡ true → result ≡ Err SessionFault.Write }
+    ensures failures { TellsFailures source.new.failed source.new.reads sink.new.failed result }
 {
     let end = serve_reads(alloc, source, sink, desk, kept)?;
     pass_on(sink)?;

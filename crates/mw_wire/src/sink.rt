@@ -1,7 +1,8 @@
 //! A writer that remembers whether it failed, and how all of a text is written to it.
 
-ghost use Rattle.std.specs.Prelude.{◌≡◌, ◌<◌, ◌||◌, is_err, true, false, OnOk, OnErr, MatchResult};
+ghost use Rattle.std.specs.Prelude.{◌≡◌, ◌<◌, ◌||◌, is_err, true, false, MatchResult};
 ghost use Rattle.std.specs.Io.KnownBytes.{Keeps, WriteAppends};
+ghost use Rattle.mw_wire.specs.Failures.{RemembersFailure};
 ghost use Rattle.mw_wire.specs.Writes.{Wrote};
 ghost use Rattle.std.specs.Io.{WritesAtMost};
 
@@ -75,8 +76,7 @@ impl<W: Write> Write for Sink<W> {
 /// Has the writer pass on all that it still holds.
 pub fn pass_on<W: Write>(sink: &mut Sink<W>) -> Result<(), SessionFault>
     ensures same_bytes { Keeps (W.contents sink.old.inner) (W.contents sink.new.inner) }
-    ensures kept { OnOk result (sink.new.failed ≡ sink.old.failed) }
-    ensures flag { OnErr result ((result ≡ Err SessionFault.Write) × (sink.new.failed ≡ true)) }
+    ensures remembers { RemembersFailure sink.old.failed sink.new.failed result }
 {
     match sink.flush() {
         Ok(()) => Ok(()),
@@ -87,8 +87,7 @@ pub fn pass_on<W: Write>(sink: &mut Sink<W>) -> Result<(), SessionFault>
 /// Writes all the bytes. At `Err` a front of them was written.
 pub fn send<W: Write>(sink: &mut Sink<W>, bytes: &[u8]) -> Result<(), SessionFault>
     ensures wrote { Wrote (W.contents sink.old.inner) (W.contents sink.new.inner) bytes.now result }
-    ensures kept { OnOk result (sink.new.failed ≡ sink.old.failed) }
-    ensures flag { OnErr result ((result ≡ Err SessionFault.Write) × (sink.new.failed ≡ true)) }
+    ensures remembers { RemembersFailure sink.old.failed sink.new.failed result }
 {
     let mut at = 0;
     while at < bytes.len() {

@@ -6,11 +6,9 @@ ghost use Rattle.std.specs.Io.{ReadsAtMost};
 ghost use Rattle.mw_wire.specs.Faults.{has_failed};
 
 use crate::fault::SessionFault;
+use mw_model::READ_LIMIT;
 use std::io;
 use std::io::{ErrorKind, Read};
-
-/// A session makes at most so many reads.
-pub const READ_LIMIT: u64 = 4_294_967_295;
 
 /// A reader that remembers whether a read failed, and how many there were. A read that was interrupted has not failed.
 #[derive(Drop)]
@@ -70,18 +68,18 @@ impl<R: Read> Read for Source<R> {
 }
 
 /// Reads a piece to the front of the buffer, and says how long it is: 0 only at the end. A read that was interrupted is
-/// made again. `Err` where a read failed, or where 4,294,967,295 reads were made.
+/// made again. `Err` where a read failed, or where `READ_LIMIT` reads were made.
 pub fn receive<R: Read>(source: &mut Source<R>, buffer: &mut [u8]) -> Result<usize, SessionFault>
     requires room { 0 < length buffer.old }
-    requires few { source.old.reads ≤ 4294967295 }
+    requires few { source.old.reads ≤ READ_LIMIT }
     ensures bound { IfOk result (λ n. n ≤ length buffer.new) }
     ensures ok { IfOk result (λ n. Consumes (R.remaining source.old.inner) (R.remaining source.new.inner) (take n buffer.new)) }
     ensures end { IfOk result (λ n. n ≡ 0 → IsAtEnd (R.remaining source.new.inner)) }
     ensures err { OnErr result (Keeps (R.remaining source.old.inner) (R.remaining source.new.inner)) }
     ensures kept { OnOk result (source.new.failed ≡ source.old.failed) }
     ensures counted { OnOk result (source.old.reads < source.new.reads) }
-    ensures few_reads { source.new.reads ≤ 4294967295 }
-    ensures fault { OnErr result ((result ≡ Err SessionFault.Read) × ((source.new.failed ≡ true) ⊎ (source.new.reads ≡ 4294967295))) }
+    ensures few_reads { source.new.reads ≤ READ_LIMIT }
+    ensures fault { OnErr result ((result ≡ Err SessionFault.Read) × ((source.new.failed ≡ true) ⊎ (source.new.reads ≡ READ_LIMIT))) }
 {
     'tries: while source.reads < READ_LIMIT {
         match source.read(buffer) {

@@ -8,7 +8,7 @@
 #![tactic(auto)]
 
 #[cfg(test)]
-mod beside_plain;
+mod beside_reference;
 #[cfg(test)]
 mod bytes;
 #[cfg(test)]
@@ -24,7 +24,7 @@ mod made;
 #[cfg(test)]
 mod pixels;
 #[cfg(test)]
-mod plain_ways;
+mod reference_ways;
 #[cfg(test)]
 mod refusals;
 #[cfg(test)]

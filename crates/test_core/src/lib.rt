@@ -21,6 +21,8 @@ mod desk;
 #[cfg(test)]
 mod events;
 #[cfg(test)]
+mod locked_core;
+#[cfg(test)]
 mod many;
 #[cfg(test)]
 mod owners;

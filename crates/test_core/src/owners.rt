@@ -11,7 +11,7 @@ use mw_core::{Core, FetchedValue, Finish, Refusal};
 use mw_model::{Code, Name, Reply};
 use mw_netpbm::read;
 use mw_pixel::{Image, Plane, SharedView};
-use mw_step_task::{TileDone, TileResult};
+use mw_step_task::{TileDone, TileResult, Work};
 use std::alloc::Global;
 use std::process::Abort;
 use std::sync::Arc;
@@ -42,6 +42,43 @@ impl Watched {
     /// How many own the plane beside the test.
     fn owners(&self) -> usize {
         Arc::strong_count(&self.plane).saturating_sub(1)
+    }
+}
+
+/// The planes that are watched, one behind the other, and how many owners were counted.
+#[derive(Drop)]
+struct Watch {
+    planes: Vec<Watched>,
+    counts: Vec<usize>,
+}
+
+impl Watch {
+    fn new(alloc: Global) -> Watch {
+        Watch {
+            planes: Vec::new(alloc),
+            counts: Vec::new(alloc),
+        }
+    }
+
+    /// Says whether there is a plane, and memory to watch it.
+    fn keeps(&mut self, plane: Option<Watched>) -> bool {
+        match plane {
+            Some(plane) => self.planes.push(plane).is_ok(),
+            None => false,
+        }
+    }
+
+    fn notes(&mut self, count: usize) -> bool {
+        self.counts.push(count).is_ok()
+    }
+
+    /// Counts the owners of the plane at this place.
+    fn counts(&mut self, at: usize) -> bool {
+        let count = match self.planes.get(at) {
+            Some(plane) => plane.owners(),
+            None => return false,
+        };
+        self.notes(count)
     }
 }
 
@@ -82,234 +119,222 @@ fn owners(
     watched.owners()
 }
 
-/// Computes and brings the task that was taken last, and watches what it made.
-fn brought(
-    rt: &impl Abort,
-    alloc: Global,
-    core: &mut Core,
-    hands: &mut Hands,
-    wanted: Finish,
-) -> Option<Watched> {
-    let done = computed(alloc, core, last_taken(rt, hands))?;
-    let watched = Watched::of_result(&done)?;
-    assert_eq!(rt; core.finish(done), wanted);
-    Some(watched)
-}
-
-/// Loads a picture, and watches its samples.
-fn loaded(alloc: Global, core: &mut Core, name: Name) -> Option<(Reply, Watched)> {
-    let image = read(alloc, b"P5\n5 1\n9\n\x03\x01\x04\x01\x05").ok()?;
-    let watched = Watched::of_image(&image)?;
-    let reply = core.load(name, Ok(image)).ok()?;
-    Some((reply, watched))
-}
-
-/// Three counts of owners; none where memory was wanting.
-type Found = Option<[usize; 3]>;
-
-const TAKEN: &[Turn] = &[
-    Call(Run(Erode, b"e", b"f", b"b"), Reply::Accepted(2)),
-    Do(Take(0, 2)),
-];
-
-const BROUGHT: &[Turn] = &[
-    Do(Bring(Finish::Settled(2))),
-    Fetch(b"e", Reply::Shown(2), ERODED),
-];
-
-/// The owners of the row before a task takes it, while the task runs, and when its result is brought.
-fn of_a_source(rt: &impl Abort, alloc: Global, core: &mut Core, hands: &mut Hands) -> Found {
-    let before = owners(rt, alloc, core, hands, b"f");
-    if !play(rt, alloc, core, hands, TAKEN) {
-        return None;
-    }
-    let taken = owners(rt, alloc, core, hands, b"f");
-    if !play(rt, alloc, core, hands, BROUGHT) {
-        return None;
-    }
-    Some([before, taken, owners(rt, alloc, core, hands, b"f")])
-}
-
-/// The owners of the row while a task runs that took it before anyone fetched it.
-fn before_a_fetch(rt: &impl Abort, alloc: Global, core: &mut Core, hands: &mut Hands) -> Found {
-    if !play(rt, alloc, core, hands, TAKEN) {
-        return None;
-    }
-    Some([owners(rt, alloc, core, hands, b"f"), 0, 0])
-}
-
-const OPENED: &[Turn] = &[
-    Call(Run(Open, b"o", b"f", b"b"), Reply::Accepted(2)),
-    Do(Take(0, 2)),
-];
-
-const NEXT_STEP: &[Turn] = &[Do(Take(0, 2))];
-
-/// The owners of the tile of the first step: once it is made, while the only task runs that reads it, and when that is
-/// finished.
-fn of_a_step(rt: &impl Abort, alloc: Global, core: &mut Core, hands: &mut Hands) -> Found {
-    if !play(rt, alloc, core, hands, OPENED) {
-        return None;
-    }
-    let first = brought(rt, alloc, core, hands, Finish::Placed)?;
-    let made = first.owners();
-    if !play(rt, alloc, core, hands, NEXT_STEP) {
-        return None;
-    }
-    let read = first.owners();
-    brought(rt, alloc, core, hands, Finish::Settled(2))?;
-    Some([made, read, first.owners()])
-}
-
-const RELEASED: &[Turn] = &[Call(Release(b"e"), Reply::Accepted(2))];
-
-/// The owners of the tile of a value: while it is kept, while it is handed out too, and when it is released.
-fn of_a_value(rt: &impl Abort, alloc: Global, core: &mut Core, hands: &mut Hands) -> Found {
-    if !play(rt, alloc, core, hands, TAKEN) {
-        return None;
-    }
-    let tile = brought(rt, alloc, core, hands, Finish::Settled(2))?;
-    let kept = tile.owners();
-    let (_, shown) = fetched(rt, core, hands, name(rt, b"e"));
-    let handed = tile.owners();
-    drop(shown);
-    play(rt, alloc, core, hands, RELEASED);
-    Some([kept, handed, tile.owners()])
-}
-
-const READ_TWICE: &[Turn] = &[
-    Call(Run(Erode, b"g", b"e", b"b"), Reply::Accepted(3)),
-    Call(Run(Dilate, b"h", b"e", b"b"), Reply::Accepted(4)),
-    Call(Release(b"e"), Reply::Accepted(2)),
-];
-
-const ONE_ENDS: &[Turn] = &[Do(Take(0, 3)), Do(Bring(Finish::Settled(3)))];
-
-const BOTH_ENDED: &[Turn] = &[Call(Cancel(b"h"), Reply::Accepted(4))];
-
-/// The owners of the tile of a released value that two commands wait for: while both do, when one of them is done, and when the
-/// other is cancelled.
-fn of_what_is_wanted(rt: &impl Abort, alloc: Global, core: &mut Core, hands: &mut Hands) -> Found {
-    if !play(rt, alloc, core, hands, TAKEN) {
-        return None;
-    }
-    let value = brought(rt, alloc, core, hands, Finish::Settled(2))?;
-    play(rt, alloc, core, hands, READ_TWICE);
-    let wanted = value.owners();
-    if !play(rt, alloc, core, hands, ONE_ENDS) {
-        return None;
-    }
-    let still = value.owners();
-    play(rt, alloc, core, hands, BOTH_ENDED);
-    Some([wanted, still, value.owners()])
-}
-
-const GIVEN: &[Turn] = &[Call(Release(b"g"), Reply::Accepted(2))];
-
-/// The owners of a picture that is kept, of one that is refused, and of the first when it is released.
-fn of_a_refused_picture(
-    rt: &impl Abort,
-    alloc: Global,
-    core: &mut Core,
-    hands: &mut Hands,
-) -> Found {
-    let (told, first) = loaded(alloc, core, name(rt, b"g"))?;
-    assert_eq!(rt; told, Reply::Accepted(2));
-    let (told, second) = loaded(alloc, core, name(rt, b"g"))?;
-    assert_eq!(rt; told, Reply::Refused(Code::NameTaken));
-    let kept = first.owners();
-    play(rt, alloc, core, hands, GIVEN);
-    Some([kept, second.owners(), first.owners()])
-}
-
-const WAITING: &[Turn] = &[
-    Call(Run(Open, b"o", b"g", b"b"), Reply::Accepted(3)),
-    Call(Release(b"g"), Reply::Accepted(2)),
-    Do(Take(0, 3)),
-];
-
-const KILLED: &[Turn] = &[Do(Take(0, 3)), Do(GiveUp(Refusal::Killed(3)))];
-
-/// An opening waits for a picture that is released, and dies between its two steps: the owners of the picture and of the first tile
-/// before that, and of both behind it.
-fn of_what_dies(rt: &impl Abort, alloc: Global, core: &mut Core, hands: &mut Hands) -> Found {
-    let (_, input) = loaded(alloc, core, name(rt, b"g"))?;
-    if !play(rt, alloc, core, hands, WAITING) {
-        return None;
-    }
-    let tile = brought(rt, alloc, core, hands, Finish::Placed)?;
-    let before = [input.owners(), tile.owners()];
-    if !play(rt, alloc, core, hands, KILLED) {
-        return None;
-    }
-    Some([before[0], before[1], input.owners().max(tile.owners())])
-}
-
+/// What is done with a core. Each says no where memory is wanting.
 #[derive(Clone, Copy)]
-enum Scene {
-    Source,
-    BeforeAFetch,
-    Step,
-    Value,
-    Wanted,
-    RefusedPicture,
-    Death,
+enum Deed<'a> {
+    Play(&'a [Turn<'a>]),
+    /// Computes and brings the task that was taken last, and watches what it made.
+    Brings(Finish),
+    /// Loads a picture, and watches its samples.
+    Loads(&'a [u8], Reply),
+    /// Counts the owners of the plane of an image in one piece.
+    CountsOf(&'a [u8]),
+    /// Counts the owners of what was watched as this one.
+    Counts(usize),
+    /// Counts the owners of what was watched as this one, while a value is handed out.
+    CountsBeside(&'a [u8], usize),
 }
 
-/// The counts of a scene, on a core of its own.
-fn counts(rt: &impl Abort, alloc: Global, scene: Scene) -> Found {
+fn bring(
+    rt: &impl Abort,
+    alloc: Global,
+    core: &mut Core,
+    work: Work,
+    wanted: Finish,
+    watch: &mut Watch,
+) -> bool {
+    match computed(alloc, core, work) {
+        Some(done) => {
+            let is_kept = watch.keeps(Watched::of_result(&done));
+            assert_eq!(rt; core.finish(done), wanted);
+            is_kept
+        }
+        None => false,
+    }
+}
+
+fn load(
+    rt: &impl Abort,
+    alloc: Global,
+    core: &mut Core,
+    name: Name,
+    wanted: Reply,
+    watch: &mut Watch,
+) -> bool {
+    let image = match read(alloc, b"P5\n5 1\n9\n\x03\x01\x04\x01\x05") {
+        Ok(image) => image,
+        Err(_) => return false,
+    };
+    let is_kept = watch.keeps(Watched::of_image(&image));
+    match core.load(name, Ok(image)) {
+        Ok(reply) => {
+            assert_eq!(rt; reply, wanted);
+            is_kept
+        }
+        Err(_) => false,
+    }
+}
+
+fn does(
+    rt: &impl Abort,
+    alloc: Global,
+    core: &mut Core,
+    hands: &mut Hands,
+    watch: &mut Watch,
+    deed: &Deed,
+) -> bool {
+    match deed {
+        Deed::Play(turns) => play(rt, alloc, core, hands, turns),
+        Deed::Brings(wanted) => bring(rt, alloc, core, last_taken(rt, hands), *wanted, watch),
+        Deed::Loads(text, wanted) => load(rt, alloc, core, name(rt, text), *wanted, watch),
+        Deed::CountsOf(text) => watch.notes(owners(rt, alloc, core, hands, text)),
+        Deed::Counts(at) => watch.counts(*at),
+        Deed::CountsBeside(text, at) => {
+            let _handed = fetched(rt, core, hands, name(rt, text));
+            watch.counts(*at)
+        }
+    }
+}
+
+/// The counts of deeds on a core of its own, as far as there was memory.
+fn counts(rt: &impl Abort, alloc: Global, deeds: &[Deed]) -> Vec<usize> {
     let mut hands = Hands::new(alloc);
     let mut core = new_core(rt, alloc, &mut hands);
     lay_out(rt, alloc, &mut core, &mut hands, ROW);
-    match scene {
-        Scene::Source => of_a_source(rt, alloc, &mut core, &mut hands),
-        Scene::BeforeAFetch => before_a_fetch(rt, alloc, &mut core, &mut hands),
-        Scene::Step => of_a_step(rt, alloc, &mut core, &mut hands),
-        Scene::Value => of_a_value(rt, alloc, &mut core, &mut hands),
-        Scene::Wanted => of_what_is_wanted(rt, alloc, &mut core, &mut hands),
-        Scene::RefusedPicture => of_a_refused_picture(rt, alloc, &mut core, &mut hands),
-        Scene::Death => of_what_dies(rt, alloc, &mut core, &mut hands),
+    let mut watch = Watch::new(alloc);
+    for deed in deeds {
+        if !does(rt, alloc, &mut core, &mut hands, &mut watch, deed) {
+            break;
+        }
     }
+    watch.counts
 }
 
 /// Where the counts are others, which a refused allocation may bring about, they are taken once more.
-fn are(rt: &impl Abort, alloc: Global, scene: Scene, wanted: [usize; 3]) {
-    if counts(rt, alloc, scene) != Some(wanted) {
-        assert_eq!(rt; counts(rt, alloc, scene), Some(wanted));
+fn are(rt: &impl Abort, alloc: Global, deeds: &[Deed], wanted: &[usize]) {
+    if counts(rt, alloc, deeds).as_slice() != wanted {
+        assert_eq!(rt; counts(rt, alloc, deeds).as_slice(), wanted);
     }
 }
 
+const TAKEN: Deed = Deed::Play(&[
+    Call(Run(Erode, b"e", b"f", b"b"), Reply::Accepted(2)),
+    Do(Take(0, 2)),
+]);
+
+const BROUGHT: Deed = Deed::Play(&[
+    Do(Bring(Finish::Settled(2))),
+    Fetch(b"e", Reply::Shown(2), ERODED),
+]);
+
+/// The owners of the row before a task takes it, while the task runs, and when its result is brought.
 #[test]
 fn a_task_owns_the_plane_of_its_source_while_it_runs(rt: HostRuntime) {
-    are(&rt, rt.alloc(), Scene::Source, [1, 2, 1]);
+    let row = Deed::CountsOf(b"f");
+    are(
+        &rt,
+        rt.alloc(),
+        &[row, TAKEN, row, BROUGHT, row],
+        &[1, 2, 1],
+    );
 }
 
+/// The owners of the row while a task runs that took it before anyone fetched it.
 #[test]
 fn a_task_owns_a_plane_that_was_not_handed_out(rt: HostRuntime) {
-    are(&rt, rt.alloc(), Scene::BeforeAFetch, [2, 0, 0]);
+    are(&rt, rt.alloc(), &[TAKEN, Deed::CountsOf(b"f")], &[2]);
 }
 
+const STEP: &[Deed] = &[
+    Deed::Play(&[
+        Call(Run(Open, b"o", b"f", b"b"), Reply::Accepted(2)),
+        Do(Take(0, 2)),
+    ]),
+    Deed::Brings(Finish::Placed),
+    Deed::Counts(0),
+    Deed::Play(&[Do(Take(0, 2))]),
+    Deed::Counts(0),
+    Deed::Brings(Finish::Settled(2)),
+    Deed::Counts(0),
+];
+
+/// The owners of the tile of the first step: once it is made, while the only task runs that reads it, and when that is
+/// finished.
 #[test]
 fn a_tile_is_dropped_with_its_last_reader(rt: HostRuntime) {
-    are(&rt, rt.alloc(), Scene::Step, [1, 2, 0]);
+    are(&rt, rt.alloc(), STEP, &[1, 2, 0]);
 }
 
+const VALUE: &[Deed] = &[
+    TAKEN,
+    Deed::Brings(Finish::Settled(2)),
+    Deed::Counts(0),
+    Deed::CountsBeside(b"e", 0),
+    Deed::Play(&[Call(Release(b"e"), Reply::Accepted(2))]),
+    Deed::Counts(0),
+];
+
+/// The owners of the tile of a value: while it is kept, while it is handed out too, and when it is released.
 #[test]
 fn a_value_is_dropped_with_its_release(rt: HostRuntime) {
-    are(&rt, rt.alloc(), Scene::Value, [1, 2, 0]);
+    are(&rt, rt.alloc(), VALUE, &[1, 2, 0]);
 }
 
+const WANTED: &[Deed] = &[
+    TAKEN,
+    Deed::Brings(Finish::Settled(2)),
+    Deed::Play(&[
+        Call(Run(Erode, b"g", b"e", b"b"), Reply::Accepted(3)),
+        Call(Run(Dilate, b"h", b"e", b"b"), Reply::Accepted(4)),
+        Call(Release(b"e"), Reply::Accepted(2)),
+    ]),
+    Deed::Counts(0),
+    Deed::Play(&[Do(Take(0, 3)), Do(Bring(Finish::Settled(3)))]),
+    Deed::Counts(0),
+    Deed::Play(&[Call(Cancel(b"h"), Reply::Accepted(4))]),
+    Deed::Counts(0),
+];
+
+/// The owners of the tile of a released value that two commands wait for: while both do, when one of them is done, and when the
+/// other is cancelled.
 #[test]
 fn a_value_is_dropped_when_the_last_command_ends_that_wants_it(rt: HostRuntime) {
-    are(&rt, rt.alloc(), Scene::Wanted, [1, 1, 0]);
+    are(&rt, rt.alloc(), WANTED, &[1, 1, 0]);
 }
 
+const REFUSED_PICTURE: &[Deed] = &[
+    Deed::Loads(b"g", Reply::Accepted(2)),
+    Deed::Loads(b"g", Reply::Refused(Code::NameTaken)),
+    Deed::Counts(0),
+    Deed::Play(&[Call(Release(b"g"), Reply::Accepted(2))]),
+    Deed::Counts(1),
+    Deed::Counts(0),
+];
+
+/// The owners of a picture that is kept, of one that is refused, and of the first when it is released.
 #[test]
 fn a_refused_picture_has_no_owner(rt: HostRuntime) {
-    are(&rt, rt.alloc(), Scene::RefusedPicture, [1, 0, 0]);
+    are(&rt, rt.alloc(), REFUSED_PICTURE, &[1, 0, 0]);
 }
 
+const DEATH: &[Deed] = &[
+    Deed::Loads(b"g", Reply::Accepted(2)),
+    Deed::Play(&[
+        Call(Run(Open, b"o", b"g", b"b"), Reply::Accepted(3)),
+        Call(Release(b"g"), Reply::Accepted(2)),
+        Do(Take(0, 3)),
+    ]),
+    Deed::Brings(Finish::Placed),
+    Deed::Counts(0),
+    Deed::Counts(1),
+    Deed::Play(&[Do(Take(0, 3)), Do(GiveUp(Refusal::Killed(3)))]),
+    Deed::Counts(0),
+    Deed::Counts(1),
+];
+
+/// An opening waits for a picture that is released, and dies between its two steps: the owners of the picture and of the first tile
+/// before that, and of both behind it.
 #[test]
 fn a_kill_drops_the_work_and_its_input(rt: HostRuntime) {
-    are(&rt, rt.alloc(), Scene::Death, [1, 1, 0]);
+    are(&rt, rt.alloc(), DEATH, &[1, 1, 0, 0]);
 }

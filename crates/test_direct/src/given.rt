@@ -6,7 +6,7 @@ use mw_element::Element;
 use mw_model::Name;
 use mw_netpbm::read;
 use mw_pixel::Image;
-use mw_reference::PlainImage;
+use mw_reference::ReferenceImage;
 use std::alloc::Global;
 use std::process::Abort;
 use std::sync::Arc;
@@ -69,7 +69,7 @@ fn levels_of(rt: &impl Abort, alloc: Global, given: &Image) -> Vec<u16> {
 }
 
 /// The image as the reference has it.
-pub(crate) fn plain_of(rt: &impl Abort, alloc: Global, given: &Image) -> PlainImage {
+pub(crate) fn plain_of(rt: &impl Abort, alloc: Global, given: &Image) -> ReferenceImage {
     let levels = levels_of(rt, alloc, given);
     let (width, height) = (given.width(), given.height());
     match image(alloc, given.kind(), width, height, given.maxval(), &levels) {

@@ -14,4 +14,4 @@ mod memory;
 #[cfg(test)]
 mod operations;
 #[cfg(test)]
-mod plain;
+mod reference;

@@ -4,12 +4,12 @@ ghost use Rattle.std.specs.Prelude.{◌<◌};
 ghost use Rattle.mw_model.specs.Pictures.{IsImage};
 
 use crate::given::{DEEP, GREY, MARKS, SET, element, name, picture, plain_of};
-use crate::plain::by_plain_program;
+use crate::reference::by_reference;
 use mw_c_direct::{Made, apply};
 use mw_element::Element;
 use mw_model::{FlatOp, GranOp, Offset, Op};
 use mw_pixel::Image;
-use mw_reference::PlainImage;
+use mw_reference::ReferenceImage;
 use std::alloc::Global;
 use std::process::Abort;
 use std::sync::Arc;
@@ -24,14 +24,14 @@ const SQUARE: &[u8] = b"P1\n3 3\n111\n111\n111\n";
 const RIGHT: &[u8] = b"P1\n3 1\n001\n";
 
 /// Stops where the images differ.
-fn are_same(rt: &impl Abort, found: &PlainImage, wanted: &PlainImage) {
+fn are_same(rt: &impl Abort, found: &ReferenceImage, wanted: &ReferenceImage) {
     assert!(rt; found.kind() == wanted.kind() && found.maxval() == wanted.maxval());
     assert!(rt; found.width() == wanted.width() && found.height() == wanted.height());
     assert_eq!(rt; found.samples(), wanted.samples());
 }
 
 /// Stops where another image was made, or a curve.
-fn is_image(rt: &impl Abort, alloc: Global, made: Made, wanted: &PlainImage) {
+fn is_image(rt: &impl Abort, alloc: Global, made: Made, wanted: &ReferenceImage) {
     match made {
         Made::Image(found) => are_same(rt, &plain_of(rt, alloc, &found), wanted),
         Made::Curve(_) => panic!(rt; "an image"),
@@ -61,8 +61,8 @@ fn plainly(
     image: &Image,
     b: &[Offset],
     c: &[Offset],
-) -> PlainImage {
-    by_plain_program(alloc, op, &plain_of(rt, alloc, image), b, c)
+) -> ReferenceImage {
+    by_reference(alloc, op, &plain_of(rt, alloc, image), b, c)
         .ok()
         .expect(rt, "memory")
 }
@@ -133,7 +133,7 @@ fn iterated(
     op: &GranOp,
     image: &Image,
     b: &[Offset],
-) -> PlainImage {
+) -> ReferenceImage {
     let image = plain_of(rt, alloc, image);
     match op {
         GranOp::Skeleton(_, _, k) => mw_reference::skeleton(alloc, &image, b, few(rt, *k)),

@@ -3,7 +3,7 @@
 ghost use Rattle.std.specs.Prelude.{◌≤◌, ◌↔◌, IsTrue, All};
 
 use mw_model::{Kind, NoMemory, Offset};
-use mw_reference::PlainImage;
+use mw_reference::ReferenceImage;
 use std::alloc::Global;
 use std::test::Fail;
 
@@ -21,7 +21,7 @@ pub fn image(
     height: u32,
     maxval: u16,
     samples: &[u16],
-) -> Result<PlainImage, Fail> {
+) -> Result<ReferenceImage, Fail> {
     if width > 8192 || height > 8192 || samples.len() != height as usize * width as usize {
         return Err("other sides".into());
     }
@@ -29,7 +29,7 @@ pub fn image(
         return Err("a sample over the maxval".into());
     }
     let samples = samples.to_vec(alloc)?;
-    Ok(PlainImage::new(kind, width, height, maxval, samples))
+    Ok(ReferenceImage::new(kind, width, height, maxval, samples))
 }
 
 fn width_of(samples: &[u16]) -> Result<u32, Fail> {
@@ -37,12 +37,12 @@ fn width_of(samples: &[u16]) -> Result<u32, Fail> {
 }
 
 /// A row of levels.
-pub fn grey_row(alloc: Global, maxval: u16, samples: &[u16]) -> Result<PlainImage, Fail> {
+pub fn grey_row(alloc: Global, maxval: u16, samples: &[u16]) -> Result<ReferenceImage, Fail> {
     image(alloc, Kind::Grey, width_of(samples)?, 1, maxval, samples)
 }
 
 /// A row of pixels, each 0 or 1.
-pub fn bit_row(alloc: Global, samples: &[u16]) -> Result<PlainImage, Fail> {
+pub fn bit_row(alloc: Global, samples: &[u16]) -> Result<ReferenceImage, Fail> {
     image(alloc, Kind::Bit, width_of(samples)?, 1, 1, samples)
 }
 
@@ -65,7 +65,7 @@ pub fn noise(
     width: u32,
     height: u32,
     maxval: u16,
-) -> Result<PlainImage, Fail> {
+) -> Result<ReferenceImage, Fail> {
     let samples = mixed(alloc, u64::from(width) * u64::from(height), maxval)?;
     image(alloc, kind, width, height, maxval, &samples)
 }
@@ -73,9 +73,9 @@ pub fn noise(
 /// The erosion and the dilation by the reference.
 pub fn extrema(
     alloc: Global,
-    image: &PlainImage,
+    image: &ReferenceImage,
     offsets: &[Offset],
-) -> Result<(PlainImage, PlainImage), NoMemory> {
+) -> Result<(ReferenceImage, ReferenceImage), NoMemory> {
     let eroded = mw_reference::erosion(alloc, image, offsets)?;
     let dilated = mw_reference::dilation(alloc, image, offsets)?;
     Ok((eroded, dilated))

@@ -1,7 +1,7 @@
 //! Samples of a type, and planes of them.
 
 use mw_pixel::{Pixel, Planar, Plane};
-use mw_reference::PlainImage;
+use mw_reference::ReferenceImage;
 use std::alloc::Global;
 use std::test::Fail;
 
@@ -27,7 +27,7 @@ fn put<P: Planar>(plane: &mut Plane<P>, x: u32, y: u32, dot: &Plane<P>) {
 }
 
 /// The samples of an image, in a type that has its levels.
-pub fn plane_of<P: Planar>(alloc: Global, image: &PlainImage) -> Result<Plane<P>, Fail> {
+pub fn plane_of<P: Planar>(alloc: Global, image: &ReferenceImage) -> Result<Plane<P>, Fail> {
     let (width, height) = (image.width(), image.height());
     let mut plane = Plane::blank(alloc, width, height)?;
     for y in 0..height {

@@ -4,7 +4,7 @@ use crate::samples::has_level;
 use mw_grid::{Grid, side_ok};
 use mw_model::{Reach, Rect};
 use mw_pixel::{Planar, Plane};
-use mw_reference::PlainImage;
+use mw_reference::ReferenceImage;
 use mw_tile::Window;
 use std::alloc::Global;
 use std::test::Fail;
@@ -65,7 +65,7 @@ pub fn parts_of<P: Planar>(
 }
 
 /// Whether a row of the tile has the samples of the whole frame.
-fn shows_row<P: Planar>(made: &Plane<P>, y: u32, tile: Rect, whole: &PlainImage) -> bool {
+fn shows_row<P: Planar>(made: &Plane<P>, y: u32, tile: Rect, whole: &ReferenceImage) -> bool {
     let row = i64::from(tile.y) + i64::from(y);
     (0..made.width()).all(|x| {
         let column = i64::from(tile.x) + i64::from(x);
@@ -74,7 +74,7 @@ fn shows_row<P: Planar>(made: &Plane<P>, y: u32, tile: Rect, whole: &PlainImage)
 }
 
 /// Whether these are the samples of the tile.
-pub fn shows_tile<P: Planar>(made: &Plane<P>, tile: Rect, whole: &PlainImage) -> bool {
+pub fn shows_tile<P: Planar>(made: &Plane<P>, tile: Rect, whole: &ReferenceImage) -> bool {
     made.width() == tile.width
         && made.height() == tile.height
         && (0..made.height()).all(|y| shows_row(made, y, tile, whole))

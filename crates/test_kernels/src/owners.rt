@@ -58,7 +58,7 @@ fn window_in(rt: &impl Abort, alloc: Global, plane: &TiledPlane, place: Rect) ->
 }
 
 fn joined(rt: &impl Abort, alloc: Global, window: &SharedWindow) -> AnyWindow {
-    window.assemble(alloc).expect(rt, "memory")
+    assemble(alloc, window).expect(rt, "memory")
 }
 
 /// How many own the tile while there is a window of a rectangle of its plane, while that is put together too, and while only what

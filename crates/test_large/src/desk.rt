@@ -11,6 +11,23 @@ use mw_step_task::Work;
 use std::alloc::Global;
 use std::process::Abort;
 
+/// The side of tiles.
+#[derive(Clone, Copy)]
+pub(crate) enum Side {
+    Of64,
+    Of128,
+    Of256,
+}
+
+fn new_core(rt: &impl Abort, alloc: Global, side: Side) -> Core {
+    let core = match side {
+        Side::Of64 => Core::new(alloc, 64),
+        Side::Of128 => Core::new(alloc, 128),
+        Side::Of256 => Core::new(alloc, 256),
+    };
+    core.ok().expect(rt, "memory")
+}
+
 /// Loads the picture as ticket 0, and defines the element as ticket 1.
 fn given(rt: &impl Abort, alloc: Global, core: &mut Core, f: Scene<'_>, b: Bitmap<'_>) {
     let image = read_owned(alloc, file(rt, alloc, f));
@@ -56,19 +73,31 @@ fn fetched(rt: &impl Abort, core: &mut Core) -> FetchedValue {
     core.fetch(name(rt, "r")).ok().expect(rt, "memory").value
 }
 
-/// Stops where the fresh core makes another image.
+/// What a new core makes.
+fn made(
+    rt: &impl Abort,
+    alloc: Global,
+    side: Side,
+    task: Task,
+    given_to: (Scene<'_>, Bitmap<'_>),
+) -> FetchedValue {
+    let (f, b) = given_to;
+    let mut core = new_core(rt, alloc, side);
+    given(rt, alloc, &mut core, f, b);
+    runs(rt, alloc, &mut core, task);
+    fetched(rt, &mut core)
+}
+
+/// Stops where a core of such tiles makes another image.
 pub(crate) fn draws(
     rt: &impl Abort,
     alloc: Global,
-    core: &mut Core,
+    side: Side,
     task: Task,
     given_to: (Scene<'_>, Bitmap<'_>),
     wanted: Scene<'_>,
 ) {
-    let (f, b) = given_to;
-    given(rt, alloc, core, f, b);
-    runs(rt, alloc, core, task);
-    match fetched(rt, core) {
+    match made(rt, alloc, side, task, given_to) {
         FetchedValue::Image(plate) => {
             let image = plate.into_image(alloc).ok().expect(rt, "memory");
             assert!(rt; image.same(&image_of(rt, alloc, wanted)));
@@ -77,19 +106,16 @@ pub(crate) fn draws(
     }
 }
 
-/// Stops where the fresh core measures other volumes.
+/// Stops where a core of such tiles measures other volumes.
 pub(crate) fn measures(
     rt: &impl Abort,
     alloc: Global,
-    core: &mut Core,
+    side: Side,
     task: Task,
     given_to: (Scene<'_>, Bitmap<'_>),
     wanted: &[u64],
 ) {
-    let (f, b) = given_to;
-    given(rt, alloc, core, f, b);
-    runs(rt, alloc, core, task);
-    match fetched(rt, core) {
+    match made(rt, alloc, side, task, given_to) {
         FetchedValue::Curve(curve) => assert_eq!(rt; curve.volumes(), wanted),
         _ => panic!(rt; "a curve"),
     }

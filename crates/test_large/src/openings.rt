@@ -1,10 +1,10 @@
 //! Openings by elements of over 40,000 offsets, all of which are turned round. An opening leaves its own element as it is, and
 //! nothing of that where a pixel is missing.
 
+use crate::desk::Side;
 use crate::forms::{FORMS, Form, SIDE, element_of, pixels};
 use crate::given::{Bitmap, Scene, Task, even, put};
 use crate::{c_calls, desk, direct};
-use mw_core::Core;
 use std::alloc::Global;
 use std::process::Abort;
 
@@ -153,28 +153,25 @@ fn columns_of_bytes(rt: HostRuntime) {
 }
 
 /// The same over tiles.
-fn is_opened_in_tiles(rt: &impl Abort, alloc: Global, core: &mut Core, form: Form, levels: Levels) {
+fn is_opened_in_tiles(rt: &impl Abort, alloc: Global, side: Side, form: Form, levels: Levels) {
     let (maxval, level) = levels;
     let bits = pixels(rt, alloc, form);
     let levels = levels_of(rt, alloc, form, level);
     let f = picture(&levels, maxval);
-    desk::draws(rt, alloc, core, Task::Opening, (f, element_of(&bits)), f);
+    desk::draws(rt, alloc, side, Task::Opening, (f, element_of(&bits)), f);
 }
 
 #[test]
 fn sets_in_tiles(rt: HostRuntime) {
-    let mut core = Core::new(rt.alloc(), 128).ok().expect(&rt, "memory");
-    is_opened_in_tiles(&rt, rt.alloc(), &mut core, Form::Rows, SET);
+    is_opened_in_tiles(&rt, rt.alloc(), Side::Of128, Form::Rows, SET);
 }
 
 #[test]
 fn bytes_in_tiles(rt: HostRuntime) {
-    let mut core = Core::new(rt.alloc(), 256).ok().expect(&rt, "memory");
-    is_opened_in_tiles(&rt, rt.alloc(), &mut core, Form::Holed, BYTES);
+    is_opened_in_tiles(&rt, rt.alloc(), Side::Of256, Form::Holed, BYTES);
 }
 
 #[test]
 fn words_in_tiles(rt: HostRuntime) {
-    let mut core = Core::new(rt.alloc(), 256).ok().expect(&rt, "memory");
-    is_opened_in_tiles(&rt, rt.alloc(), &mut core, Form::Disc, WORDS);
+    is_opened_in_tiles(&rt, rt.alloc(), Side::Of256, Form::Disc, WORDS);
 }

@@ -3,9 +3,9 @@
 //! are rows.
 
 use crate::c_calls::RowJob;
+use crate::desk::Side;
 use crate::given::{Bitmap, Scene, Task};
 use crate::{c_calls, desk, direct};
-use mw_core::Core;
 use std::alloc::Global;
 use std::process::Abort;
 
@@ -206,13 +206,7 @@ fn of_rows_of_words(rt: HostRuntime) {
 }
 
 /// Stops where a core gets other ranks.
-fn tiles_are_ranked(
-    rt: &impl Abort,
-    alloc: Global,
-    core: &mut Core,
-    picture: Picture,
-    rank: (u32, u32),
-) {
+fn tiles_are_ranked(rt: &impl Abort, alloc: Global, picture: Picture, rank: (u32, u32)) {
     let (side, k) = rank;
     let (pixels, levels) = (ones(rt, alloc, side), levels_of(rt, alloc, picture));
     let wanted = ranked(rt, alloc, picture, rank);
@@ -220,7 +214,7 @@ fn tiles_are_ranked(
     desk::draws(
         rt,
         alloc,
-        core,
+        Side::Of64,
         Task::Rank(k),
         given,
         scene(&wanted, picture),
@@ -229,18 +223,15 @@ fn tiles_are_ranked(
 
 #[test]
 fn of_tiles_of_a_set(rt: HostRuntime) {
-    let mut core = Core::new(rt.alloc(), 64).ok().expect(&rt, "memory");
-    tiles_are_ranked(&rt, rt.alloc(), &mut core, Picture::Half, (255, 512));
+    tiles_are_ranked(&rt, rt.alloc(), Picture::Half, (255, 512));
 }
 
 #[test]
 fn of_tiles_of_bytes(rt: HostRuntime) {
-    let mut core = Core::new(rt.alloc(), 64).ok().expect(&rt, "memory");
-    tiles_are_ranked(&rt, rt.alloc(), &mut core, Picture::Bytes, (255, 300));
+    tiles_are_ranked(&rt, rt.alloc(), Picture::Bytes, (255, 300));
 }
 
 #[test]
 fn of_tiles_of_words(rt: HostRuntime) {
-    let mut core = Core::new(rt.alloc(), 64).ok().expect(&rt, "memory");
-    tiles_are_ranked(&rt, rt.alloc(), &mut core, Picture::Words, (101, 300));
+    tiles_are_ranked(&rt, rt.alloc(), Picture::Words, (101, 300));
 }

@@ -1,9 +1,9 @@
 //! Skeletons of 254 levels, and what is restored of them.
 
+use crate::desk::Side;
 use crate::forms::{Form, element_of, pixels};
 use crate::given::{Bitmap, Scene, Task, even, put};
 use crate::{c_calls, desk, direct};
-use mw_core::Core;
 use std::alloc::Global;
 use std::process::Abort;
 
@@ -84,35 +84,20 @@ fn marks_of_two_bytes(rt: HostRuntime) {
     c_calls::restored(&rt, alloc, 254, marks, BAR, set.levels);
 }
 
-fn skeleton_in_tiles(rt: &impl Abort, alloc: Global, core: &mut Core) {
-    let (set, marks) = (set_row(rt, alloc), mark_row(rt, alloc));
-    let given = (row(&set, 1), BAR);
-    desk::draws(
-        rt,
-        alloc,
-        core,
-        Task::Skeleton(254),
-        given,
-        row(&marks, 255),
-    );
-}
-
 #[test]
 fn lines_in_tiles(rt: HostRuntime) {
-    let mut core = Core::new(rt.alloc(), 64).ok().expect(&rt, "memory");
-    skeleton_in_tiles(&rt, rt.alloc(), &mut core);
-}
-
-fn restored_in_tiles(rt: &impl Abort, alloc: Global, core: &mut Core) {
-    let (set, marks) = (set_row(rt, alloc), mark_row(rt, alloc));
-    let given = (row(&marks, 255), BAR);
-    desk::draws(rt, alloc, core, Task::Restoration(254), given, row(&set, 1));
+    let alloc = rt.alloc();
+    let (set, marks) = (set_row(&rt, alloc), mark_row(&rt, alloc));
+    let (task, given) = (Task::Skeleton(254), (row(&set, 1), BAR));
+    desk::draws(&rt, alloc, Side::Of64, task, given, row(&marks, 255));
 }
 
 #[test]
 fn marks_in_tiles(rt: HostRuntime) {
-    let mut core = Core::new(rt.alloc(), 64).ok().expect(&rt, "memory");
-    restored_in_tiles(&rt, rt.alloc(), &mut core);
+    let alloc = rt.alloc();
+    let (set, marks) = (set_row(&rt, alloc), mark_row(&rt, alloc));
+    let (task, given) = (Task::Restoration(254), (row(&marks, 255), BAR));
+    desk::draws(&rt, alloc, Side::Of64, task, given, row(&set, 1));
 }
 
 /// Columns and rows of a picture, and how many pixels it has.

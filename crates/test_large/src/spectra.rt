@@ -1,8 +1,8 @@
 //! Spectra of 32 sizes.
 
+use crate::desk::Side;
 use crate::given::{Bitmap, Scene, Task, even, put};
 use crate::{c_calls, desk, direct};
-use mw_core::Core;
 use std::alloc::Global;
 use std::process::Abort;
 
@@ -89,22 +89,20 @@ fn by_neighbours(rt: HostRuntime) {
 }
 
 /// The same over tiles.
-fn is_measured_in_tiles(rt: &impl Abort, alloc: Global, core: &mut Core, b: Bitmap<'_>) {
+fn is_measured_in_tiles(rt: &impl Abort, alloc: Global, b: Bitmap<'_>) {
     let (levels, wanted) = (levels_of(rt, alloc, 9), volumes(rt, alloc, 9));
     let given = (row(&levels, 200), b);
-    desk::measures(rt, alloc, core, Task::Spectrum(32), given, &wanted);
+    desk::measures(rt, alloc, Side::Of64, Task::Spectrum(32), given, &wanted);
 }
 
 #[test]
 fn by_a_bar_in_tiles(rt: HostRuntime) {
-    let mut core = Core::new(rt.alloc(), 64).ok().expect(&rt, "memory");
-    is_measured_in_tiles(&rt, rt.alloc(), &mut core, BAR);
+    is_measured_in_tiles(&rt, rt.alloc(), BAR);
 }
 
 #[test]
 fn by_neighbours_in_tiles(rt: HostRuntime) {
-    let mut core = Core::new(rt.alloc(), 64).ok().expect(&rt, "memory");
-    is_measured_in_tiles(&rt, rt.alloc(), &mut core, NEIGHBOURS);
+    is_measured_in_tiles(&rt, rt.alloc(), NEIGHBOURS);
 }
 
 /// A row of 4,096 levels, each one more than the one before.

@@ -9,9 +9,9 @@ use mw_wire::Sink;
 use std::alloc::Global;
 use std::io::{Read, Write};
 use std::net::{Ipv4Addr, Net, TcpListener, TcpStream};
+use std::process::Abort;
 use std::sync::atomic::{AtomicU64, Ordering};
 use std::sync::{Mutex, Wait};
-use std::test::Fail;
 use std::thread::Threads;
 use std::{io, mem, thread};
 
@@ -96,14 +96,14 @@ fn is_answered<R: Net<Stream = TcpStream>>(rt: &R, port: u16) -> io::Result<bool
 }
 
 /// How many clients are answered, one after the other.
-fn all_call<R: Net<Stream = TcpStream>>(rt: &R, port: u16) -> io::Result<u32> {
+fn all_call<R: Net<Stream = TcpStream>>(rt: &R, port: u16) -> u32 {
     let mut count = 0u32;
     for _ in 0..SESSIONS {
-        if is_answered(rt, port)? {
+        if matches!(is_answered(rt, port), Ok(true)) {
             count = count.saturating_add(1);
         }
     }
-    Ok(count)
+    count
 }
 
 /// The exit status of a server of such sessions, and the faults that it told.
@@ -132,21 +132,22 @@ fn audited<
     (status, faults.into_inner())
 }
 
-/// How many clients of such a server are answered, its exit status, and the faults that it told.
-fn seen<
-    R: Net<Listener = TcpListener, Stream = TcpStream> + Threads + Wait + Sync,
+/// All clients of such a server are answered. It stops where the exit status of the server or the faults that it told are others.
+fn tells<
+    R: Net<Listener = TcpListener, Stream = TcpStream> + Threads + Wait + Abort + Sync,
     S: Session + Sync,
->(rt: &R, alloc: Global, port: u16, session: &S) -> io::Result<(u32, u8, Vec<u8>)>
+>(rt: &R, alloc: Global, port: u16, session: &S, wanted: (u8, &[u8]))
     requires { 1 ≤ port }
 {
-    let (heard, (status, told)) = thread::join(
+    let (count, (status, told)) = thread::join(
         rt,
         || all_call(rt, port),
         || -> (u8, Vec<u8>)
             requires { 1 ≤ port }
         { audited(rt, alloc, port, session) },
     );
-    Ok((heard?, status, told))
+    assert_eq!(rt; (count, status), (SESSIONS, wanted.0));
+    assert_eq!(rt; told.as_slice(), wanted.1);
 }
 
 fn who_forgets(number: u64) -> Forgetting {
@@ -156,29 +157,23 @@ fn who_forgets(number: u64) -> Forgetting {
     }
 }
 
+const FAILED: (u8, &[u8]) = (1, b"error: audit\n");
+
 #[test]
-fn a_pass_without_receipts_fails_the_audit(rt: HostRuntime) -> Result<(), Fail> {
-    let (count, status, told) = seen(&rt, rt.alloc(), 7009, &who_forgets(2))?;
-    assert_eq!(rt; (count, status), (SESSIONS, 1));
-    assert_eq!(rt; told.as_slice(), b"error: audit\n".as_slice());
-    Ok(())
+fn a_pass_without_receipts_fails_the_audit(rt: HostRuntime) {
+    tells(&rt, rt.alloc(), 7009, &who_forgets(2), FAILED);
 }
 
 #[test]
-fn the_pass_of_another_session_fails_the_audit(rt: HostRuntime) -> Result<(), Fail> {
+fn the_pass_of_another_session_fails_the_audit(rt: HostRuntime) {
     let swapping = Swapping {
         before: Mutex::new(None),
     };
-    let (count, status, told) = seen(&rt, rt.alloc(), 7011, &swapping)?;
-    assert_eq!(rt; (count, status), (SESSIONS, 1));
-    assert_eq!(rt; told.as_slice(), b"error: audit\n".as_slice());
-    Ok(())
+    tells(&rt, rt.alloc(), 7011, &swapping, FAILED);
 }
 
 #[test]
-fn all_passes_stand_the_audit(rt: HostRuntime) -> Result<(), Fail> {
-    let (count, status, told) = seen(&rt, rt.alloc(), 7012, &who_forgets(u64::from(SESSIONS)))?;
-    assert_eq!(rt; (count, status), (SESSIONS, 0));
-    assert!(rt; told.is_empty());
-    Ok(())
+fn all_passes_stand_the_audit(rt: HostRuntime) {
+    let all = who_forgets(u64::from(SESSIONS));
+    tells(&rt, rt.alloc(), 7012, &all, (0, b""));
 }

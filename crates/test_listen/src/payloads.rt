@@ -3,7 +3,7 @@
 use mw_model::{Next, Request};
 use mw_session_intake::Intake;
 use std::alloc::Global;
-use std::test::Fail;
+use std::process::Abort;
 
 fn image_in(next: Next) -> Option<Vec<u8>> {
     match next {
@@ -12,17 +12,28 @@ fn image_in(next: Next) -> Option<Vec<u8>> {
     }
 }
 
+fn feed(rt: &impl Abort, intake: &mut Intake, bytes: &[u8]) {
+    intake.feed(bytes).ok().expect(rt, "memory");
+}
+
+fn next(rt: &impl Abort, intake: &mut Intake) -> Next {
+    intake.next().ok().expect(rt, "memory")
+}
+
 /// A payload of so many bytes, of which `step` come at a time.
-fn loaded(alloc: Global, len: usize, step: usize) -> Result<Vec<u8>, Fail> {
+fn loaded(rt: &impl Abort, alloc: Global, len: usize, step: usize) -> Vec<u8> {
     let mut intake = Intake::new(alloc);
-    intake.feed(format!(in alloc; "LOAD x {len}\n")?.as_bytes())?;
-    let bytes = Vec::from_elem(alloc, 7u8, len)?;
-    let mut last = intake.next()?;
+    let line = format!(in alloc; "LOAD x {len}\n")
+        .ok()
+        .expect(rt, "memory");
+    let bytes = vec![in alloc; 7u8; len].ok().expect(rt, "memory");
+    feed(rt, &mut intake, line.as_bytes());
+    let mut last = next(rt, &mut intake);
     for piece in bytes.chunks(step.max(1)) {
-        intake.feed(piece)?;
-        last = intake.next()?;
+        feed(rt, &mut intake, piece);
+        last = next(rt, &mut intake);
     }
-    Ok(image_in(last).ok_or("no image")?)
+    image_in(last).expect(rt, "an image")
 }
 
 /// Lengths of payloads, and how many bytes of them come at a time.
@@ -36,11 +47,9 @@ const STEPS: &[(usize, usize)] = &[
 ];
 
 #[test]
-fn a_payload_has_no_place_to_spare(rt: HostRuntime) -> Result<(), Fail> {
+fn a_payload_has_no_place_to_spare(rt: HostRuntime) {
     for (len, step) in STEPS {
-        let payload = loaded(rt.alloc(), *len, *step)?;
-        assert_eq!(rt; payload.len(), *len);
-        assert_eq!(rt; payload.capacity(), *len);
+        let payload = loaded(&rt, rt.alloc(), *len, *step);
+        assert_eq!(rt; [payload.len(), payload.capacity()], [*len, *len]);
     }
-    Ok(())
 }

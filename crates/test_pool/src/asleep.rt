@@ -1,22 +1,24 @@
 //! Workers that all sleep, and one session alone: nobody else comes to the board, so a waking that is lost stays lost.
 
 use crate::desk::{done, erosion, load_both, name, numbered, run, wait};
-use crate::door::{Door, WORKERS, Way, beside};
-use crate::scenes::{Scene, on_a_board};
+use crate::door::{Door, WORKERS, Way};
+use crate::scenes::{Act, Scene, on_a_board};
 use crate::watch::{comes_to, let_sleep};
 use mw_pool::{Board, Naming};
 use std::alloc::Global;
 use std::process::Abort;
 use std::sync::Wait;
-use std::sync::atomic::Ordering;
-use std::thread::Threads;
 use std::time::Clock;
 
 /// How many commands the session asks for, one after the other.
 const COMMANDS: u32 = 10;
 
 /// Each command is done. Before each one all workers have had time to sleep.
-fn ask<R: Wait + Clock + Abort, J: Naming>(rt: &R, alloc: Global, board: &Board<J>) {
+pub(crate) fn runs_wake_sleepers<R: Wait + Clock + Abort, J: Naming>(
+    rt: &R,
+    alloc: Global,
+    board: &Board<J>,
+) {
     let mut pass = board.pass();
     load_both(rt, alloc, board, &mut pass);
     for number in 0..COMMANDS {
@@ -27,22 +29,15 @@ fn ask<R: Wait + Clock + Abort, J: Naming>(rt: &R, alloc: Global, board: &Board<
     }
 }
 
-pub(crate) fn runs_wake_sleepers<R: Threads + Wait + Clock + Abort + Sync, J: Naming + Send + Sync>(
-    rt: &R,
-    alloc: Global,
-    board: &Board<J>,
-) {
-    let door = Door::new(rt, alloc, Way::Freely);
-    beside(rt, board, &door, WORKERS, || ask(rt, alloc, board));
-}
-
 #[test]
 fn a_run_wakes_one_worker_for_one_task(rt: HostRuntime) {
-    on_a_board(&rt, rt.alloc(), Scene::RunsWake);
+    let scene = Scene::beside(WORKERS, Way::Freely, Act::RunsWake);
+    on_a_board(&rt, rt.alloc(), scene);
 }
 
-/// One task is computed, and as many as there are workers wait for its result. Then the last of these is waited for.
-fn lay_out<R: Wait + Clock + Abort, J: Naming>(
+/// One task is computed, and as many as there are workers wait for its result: it makes three tasks ready. Who brings it takes the
+/// first one, and wakes a worker for each other. Then the last of these is waited for.
+pub(crate) fn one_result_wakes_many<R: Wait + Clock + Abort, J: Naming>(
     rt: &R,
     alloc: Global,
     board: &Board<J>,
@@ -63,23 +58,8 @@ fn lay_out<R: Wait + Clock + Abort, J: Naming>(
     assert_eq!(rt; wait(rt, board, &mut pass, last), done(5));
 }
 
-/// One result makes three tasks ready. Who brings it takes the first one, and wakes a worker for each other.
-pub(crate) fn one_result_wakes_many<
-    R: Threads + Wait + Clock + Abort + Sync,
-    J: Naming + Send + Sync,
->(rt: &R, alloc: Global, board: &Board<J>) {
-    let door = Door::new(rt, alloc, Way::Together);
-    beside(
-        rt,
-        board,
-        &door,
-        WORKERS,
-        || lay_out(rt, alloc, board, &door),
-    );
-    assert_eq!(rt; door.met.load(Ordering::SeqCst), WORKERS);
-}
-
 #[test]
 fn a_result_wakes_one_worker_for_each_other_task(rt: HostRuntime) {
-    on_a_board(&rt, rt.alloc(), Scene::ResultWakes);
+    let scene = Scene::beside(WORKERS, Way::Together, Act::ResultWakes);
+    on_a_board(&rt, rt.alloc(), scene.meeting(WORKERS));
 }

@@ -30,9 +30,19 @@ pub(crate) fn name(rt: &impl Abort, text: &[u8]) -> Name {
     Name::parse(text).expect(rt, "a name")
 }
 
+/// The last digit of a number to the base 26.
+fn letter(n: u32) -> u8 {
+    b'a' + (n % 26) as u8
+}
+
 /// The name of the entry of a number: of two numbers under 676, a letter and two letters of base 26 of each.
 pub(crate) fn numbered(rt: &impl Abort, first: u32, second: u32) -> Name {
-    let digits = [first / 26, first, second / 26, second].map(|n| b'a' + (n % 26) as u8);
+    let digits = [
+        letter(first / 26),
+        letter(first),
+        letter(second / 26),
+        letter(second),
+    ];
     name(rt, &digits)
 }
 

@@ -1,14 +1,10 @@
-//! Workers beside what is played, and the gate that computes their tasks.
+//! The gate that computes the tasks of workers, and what threads tell one another by it.
 
 use crate::watch::comes_to;
-use mw_pool::{Board, Gate, Naming, work};
+use mw_pool::Gate;
 use mw_step_task::{TaskRefused, TileDone, Work};
 use std::alloc::Global;
-use std::process::Abort;
-use std::sync::Wait;
 use std::sync::atomic::{AtomicU64, Ordering};
-use std::thread;
-use std::thread::Threads;
 use std::time::Clock;
 
 /// Of the scenes with more than one worker.
@@ -44,6 +40,8 @@ pub(crate) struct Door<'g, R> {
     pub(crate) open: AtomicU64,
     /// How many were held for others, and met them in time.
     pub(crate) met: AtomicU64,
+    /// How many calls another session has made.
+    pub(crate) asked: AtomicU64,
 }
 
 impl<'g, R: Clock> Door<'g, R> {
@@ -56,6 +54,7 @@ impl<'g, R: Clock> Door<'g, R> {
             ended: AtomicU64::new(0),
             open: AtomicU64::new(0),
             met: AtomicU64::new(0),
+            asked: AtomicU64::new(0),
         }
     }
 
@@ -98,23 +97,4 @@ impl<R: Clock> Gate for Door<'_, R> {
         self.ended.fetch_add(1, Ordering::SeqCst);
         done
     }
-}
-
-/// Plays beside so many workers, which end with the board: it is closed at the end.
-pub(crate) fn beside<
-    R: Threads + Wait + Clock + Abort + Sync,
-    J: Naming + Send + Sync,
-    T: Drop,
-    F: FnOnce() -> T,
->(rt: &R, board: &Board<J>, door: &Door<'_, R>, workers: u64, play: F) -> T
-    requires { F.pre play }
-{
-    thread::scope(thread::scope_env(), rt, |scope| {
-        for _ in 0..workers {
-            let _ = scope.spawn(move || work(rt, board, door));
-        }
-        let found = play();
-        board.close(rt);
-        found
-    })
 }

@@ -1,14 +1,14 @@
 //! The file of a LOAD is read without the lock: the calls of other sessions go on meanwhile.
 
 use crate::desk::{name, numbered};
-use crate::scenes::{Scene, on_a_board};
+use crate::door::{Door, Way};
+use crate::scenes::{Act, Scene, on_a_board};
 use mw_pool::{Board, Naming, Pass};
 use std::alloc::Global;
 use std::process::Abort;
 use std::sync::Wait;
-use std::sync::atomic::{AtomicBool, AtomicU64, Ordering};
+use std::sync::atomic::Ordering;
 use std::thread;
-use std::thread::Threads;
 use std::time::{Clock, Duration};
 
 /// How many loads there are at most.
@@ -19,13 +19,6 @@ const ENOUGH: u32 = 3;
 
 /// So many calls within one LOAD: at most two could be served before it has the lock and behind it.
 const CALLS: u64 = 5;
-
-/// The other session's calls, and whether they are to end.
-#[derive(Drop)]
-struct Others {
-    asked: AtomicU64,
-    is_over: AtomicBool,
-}
 
 /// Plain text of 2048 x 1024 samples, which takes some 15 milliseconds to read.
 fn picture(rt: &impl Abort, alloc: Global) -> Vec<u8> {
@@ -42,28 +35,28 @@ fn picture(rt: &impl Abort, alloc: Global) -> Vec<u8> {
 }
 
 /// Loads the picture under this name, and says whether calls were served meanwhile.
-fn is_overlapped<R: Wait + Abort, J: Naming>(
+fn is_overlapped<R: Wait + Clock + Abort, J: Naming>(
     rt: &R,
     board: &Board<J>,
     pass: &mut Pass,
     number: u32,
     bytes: Vec<u8>,
-    others: &Others,
+    door: &Door<'_, R>,
 ) -> bool {
     let made = numbered(rt, number, 0);
-    let before = others.asked.load(Ordering::SeqCst);
+    let before = door.asked.load(Ordering::SeqCst);
     board.load(rt, pass, made, bytes).expect(rt, "memory");
-    let after = others.asked.load(Ordering::SeqCst);
+    let after = door.asked.load(Ordering::SeqCst);
     board.release(rt, pass, made).expect(rt, "memory");
     after.saturating_sub(before) >= CALLS
 }
 
 /// How many loads were overlapped, until these are enough.
-fn overlapped<R: Wait + Abort, J: Naming>(
+fn overlapped<R: Wait + Clock + Abort, J: Naming>(
     rt: &R,
     alloc: Global,
     board: &Board<J>,
-    others: &Others,
+    door: &Door<'_, R>,
 ) -> u32 {
     let picture = picture(rt, alloc);
     let mut pass = board.pass();
@@ -73,58 +66,45 @@ fn overlapped<R: Wait + Abort, J: Naming>(
             break;
         }
         let bytes = picture.as_slice().to_vec(alloc).ok().expect(rt, "memory");
-        if is_overlapped(rt, board, &mut pass, number, bytes, others) {
+        if is_overlapped(rt, board, &mut pass, number, bytes, door) {
             count = count.saturating_add(1);
         }
     }
-    others.is_over.store(true, Ordering::SeqCst);
     count
 }
 
-/// One call after the other, with pauses.
-fn ask_on<R: Wait + Clock + Abort, J: Naming>(rt: &R, board: &Board<J>, others: &Others) {
+/// A board that reads the file under its lock fails.
+pub(crate) fn loads_beside<R: Wait + Clock + Abort, J: Naming>(
+    rt: &R,
+    alloc: Global,
+    board: &Board<J>,
+    door: &Door<'_, R>,
+) {
+    assert_eq!(rt; overlapped(rt, alloc, board, door), ENOUGH);
+    door.lets_all_go();
+}
+
+/// Another session: one call after the other, with pauses.
+pub(crate) fn ask_on<R: Wait + Clock + Abort, J: Naming>(
+    rt: &R,
+    board: &Board<J>,
+    door: &Door<'_, R>,
+) {
     let mut pass = board.pass();
     for _ in rt.forever() {
-        if others.is_over.load(Ordering::SeqCst) {
+        if door.open.load(Ordering::SeqCst) > 0 {
             return;
         }
         board
             .status(rt, &mut pass, name(rt, b"x"))
             .expect(rt, "memory");
-        others.asked.fetch_add(1, Ordering::SeqCst);
+        door.asked.fetch_add(1, Ordering::SeqCst);
         thread::sleep(rt, Duration::from_millis(1));
     }
 }
 
-/// The same beside the calls of another session.
-fn overlapped_beside<R: Threads + Wait + Clock + Abort + Sync, J: Naming + Send + Sync>(
-    rt: &R,
-    alloc: Global,
-    board: &Board<J>,
-) -> u32 {
-    let others = Others {
-        asked: AtomicU64::new(0),
-        is_over: AtomicBool::new(false),
-    };
-    let beside = &others;
-    let (count, ()) = thread::join(
-        rt,
-        move || overlapped(rt, alloc, board, beside),
-        move || ask_on(rt, board, beside),
-    );
-    count
-}
-
-/// A board that reads the file under its lock fails.
-pub(crate) fn loads_beside<R: Threads + Wait + Clock + Abort + Sync, J: Naming + Send + Sync>(
-    rt: &R,
-    alloc: Global,
-    board: &Board<J>,
-) {
-    assert_eq!(rt; overlapped_beside(rt, alloc, board), ENOUGH);
-}
-
 #[test]
 fn others_are_served_while_a_file_is_read(rt: HostRuntime) {
-    on_a_board(&rt, rt.alloc(), Scene::Loads);
+    let scene = Scene::beside(1, Way::Freely, Act::Loads);
+    on_a_board(&rt, rt.alloc(), scene);
 }

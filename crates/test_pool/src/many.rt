@@ -1,8 +1,8 @@
 //! More than twice as many sessions as a board has condition variables for them. A board that wakes too few does not end.
 
 use crate::desk::{cancel, done, erosion, load_both, name, numbered, run, status, wait};
-use crate::door::{Door, WORKERS, Way, beside};
-use crate::scenes::{Scene, on_a_board};
+use crate::door::{Door, WORKERS, Way};
+use crate::scenes::{Act, Scene, on_a_board};
 use mw_model::{Code, Reply};
 use mw_pool::{Board, Naming, work};
 use std::alloc::Global;
@@ -27,7 +27,7 @@ pub(crate) enum End {
 }
 
 /// The first entry is an erosion of the row, and each other one of the entry before it. Their tickets begin with 2.
-fn lay_out<R: Wait + Abort, J: Naming>(rt: &R, alloc: Global, board: &Board<J>) {
+pub(crate) fn lay_out<R: Wait + Abort, J: Naming>(rt: &R, alloc: Global, board: &Board<J>) {
     let mut pass = board.pass();
     load_both(rt, alloc, board, &mut pass);
     let mut input = name(rt, b"f");
@@ -39,18 +39,17 @@ fn lay_out<R: Wait + Abort, J: Naming>(rt: &R, alloc: Global, board: &Board<J>) 
 }
 
 /// Settles the entries once the sessions have had time to sleep. A worker ends with the board.
-fn end_waits<R: Wait + Clock + Abort, J: Naming>(
+pub(crate) fn end_waits<R: Wait + Clock + Abort, J: Naming>(
     rt: &R,
-    alloc: Global,
     board: &Board<J>,
+    door: &Door<'_, R>,
     end: End,
 ) {
     for _ in 0..100_000u32 {
         thread::yield_now();
     }
     match end {
-        End::Worker => work(rt, board, &Door::new(rt, alloc, Way::Freely)),
-        End::Refusal => work(rt, board, &Door::new(rt, alloc, Way::Refused)),
+        End::Worker | End::Refusal => work(rt, board, door),
         End::Cancel => {
             cancel(rt, board, &mut board.pass(), numbered(rt, 0, 0));
         }
@@ -70,49 +69,19 @@ fn wanted(end: End, number: u32) -> Reply {
     }
 }
 
+/// What a session does.
+#[derive(Clone, Copy)]
+enum Session {
+    /// It waits for an entry, which ends so.
+    Waits(End),
+    /// It asks for one command after another.
+    Works,
+}
+
 /// Whether a session that waits for the entry of this number is told so.
 fn is_told<R: Wait + Abort, J: Naming>(rt: &R, board: &Board<J>, number: u32, end: End) -> bool {
     let reply = wait(rt, board, &mut board.pass(), numbered(rt, number, 0));
     reply == wanted(end, number)
-}
-
-/// Each session, in a thread of its own, waits for an entry of its own.
-pub(crate) fn waits_end<R: Threads + Wait + Clock + Abort + Sync, J: Naming + Send + Sync>(
-    rt: &R,
-    alloc: Global,
-    board: &Board<J>,
-    end: End,
-) {
-    lay_out(rt, alloc, board);
-    let told = thread::scope(thread::scope_env(), rt, |scope| {
-        let _ = scope.spawn(move || end_waits(rt, alloc, board, end));
-        let count = SESSIONS as usize;
-        let told = map_indices(rt, alloc, count, &|i| { is_told(rt, board, i as u32, end) });
-        board.close(rt);
-        told.expect(rt, "memory")
-    });
-    assert_eq!(rt; told.len(), SESSIONS as usize);
-    assert!(rt; told.iter().all(|is_so| *is_so));
-}
-
-#[test]
-fn each_result_wakes_who_waits_for_it(rt: HostRuntime) {
-    on_a_board(&rt, rt.alloc(), Scene::WaitsEnd(End::Worker));
-}
-
-#[test]
-fn refused_memory_wakes_all(rt: HostRuntime) {
-    on_a_board(&rt, rt.alloc(), Scene::WaitsEnd(End::Refusal));
-}
-
-#[test]
-fn a_cancel_wakes_all(rt: HostRuntime) {
-    on_a_board(&rt, rt.alloc(), Scene::WaitsEnd(End::Cancel));
-}
-
-#[test]
-fn a_close_wakes_all(rt: HostRuntime) {
-    on_a_board(&rt, rt.alloc(), Scene::WaitsEnd(End::Close));
 }
 
 /// One erosion after another, each waited for before the next: how many were done, and how many found no memory.
@@ -135,11 +104,25 @@ fn commands_ended<R: Wait + Abort, J: Naming>(
     (made, refused)
 }
 
-/// The same of all sessions, in threads of their own.
+/// How many calls of a session were answered as they are to be, and how many found no memory.
+fn ended<R: Wait + Abort, J: Naming>(
+    rt: &R,
+    board: &Board<J>,
+    number: u32,
+    session: Session,
+) -> (u32, u32) {
+    match session {
+        Session::Waits(end) => (u32::from(is_told(rt, board, number, end)), 0),
+        Session::Works => commands_ended(rt, board, number),
+    }
+}
+
+/// How the calls of all sessions ended, in threads of their own.
 fn all_ended<R: Threads + Wait + Abort + Sync, J: Naming + Send + Sync>(
     rt: &R,
     alloc: Global,
     board: &Board<J>,
+    session: Session,
 ) -> (u32, u32) {
     let (mut made, mut refused) = (0u32, 0u32);
     let count = SESSIONS as usize;
@@ -147,7 +130,7 @@ fn all_ended<R: Threads + Wait + Abort + Sync, J: Naming + Send + Sync>(
         rt,
         alloc,
         count,
-        &|i| { commands_ended(rt, board, i as u32) },
+        &|i| { ended(rt, board, i as u32, session) },
     );
     for each in ended.expect(rt, "memory") {
         made = made.saturating_add(each.0);
@@ -156,22 +139,57 @@ fn all_ended<R: Threads + Wait + Abort + Sync, J: Naming + Send + Sync>(
     (made, refused)
 }
 
+/// Each session waits for an entry of its own, and is told how that ends.
+pub(crate) fn waits_end<R: Threads + Wait + Abort + Sync, J: Naming + Send + Sync>(
+    rt: &R,
+    alloc: Global,
+    board: &Board<J>,
+    end: End,
+) {
+    let ended = all_ended(rt, alloc, board, Session::Waits(end));
+    assert_eq!(rt; ended, (SESSIONS, 0));
+}
+
+#[test]
+fn each_result_wakes_who_waits_for_it(rt: HostRuntime) {
+    let scene = Scene::beside(1, Way::Freely, Act::WaitsEnd(End::Worker));
+    on_a_board(&rt, rt.alloc(), scene);
+}
+
+#[test]
+fn refused_memory_wakes_all(rt: HostRuntime) {
+    let scene = Scene::beside(1, Way::Refused, Act::WaitsEnd(End::Refusal));
+    on_a_board(&rt, rt.alloc(), scene);
+}
+
+#[test]
+fn a_cancel_wakes_all(rt: HostRuntime) {
+    let scene = Scene::beside(1, Way::Freely, Act::WaitsEnd(End::Cancel));
+    on_a_board(&rt, rt.alloc(), scene);
+}
+
+#[test]
+fn a_close_wakes_all(rt: HostRuntime) {
+    let scene = Scene::beside(1, Way::Freely, Act::WaitsEnd(End::Close));
+    on_a_board(&rt, rt.alloc(), scene);
+}
+
 /// Beside workers that find no memory for each 64th task: exactly these are told so.
-pub(crate) fn all_worked_off<R: Threads + Wait + Clock + Abort + Sync, J: Naming + Send + Sync>(
+pub(crate) fn all_worked_off<R: Threads + Wait + Abort + Sync, J: Naming + Send + Sync>(
     rt: &R,
     alloc: Global,
     board: &Board<J>,
 ) {
     load_both(rt, alloc, board, &mut board.pass());
-    let door = Door::new(rt, alloc, Way::SomeRefused);
-    let ended = beside(rt, board, &door, WORKERS, || all_ended(rt, alloc, board));
+    let ended = all_ended(rt, alloc, board, Session::Works);
     let refused = SESSIONS * COMMANDS / 64;
     assert_eq!(rt; ended, (SESSIONS * COMMANDS - refused, refused));
 }
 
 #[test]
 fn no_waking_is_lost(rt: HostRuntime) {
-    on_a_board(&rt, rt.alloc(), Scene::WorkedOff);
+    let scene = Scene::beside(WORKERS, Way::SomeRefused, Act::WorkedOff);
+    on_a_board(&rt, rt.alloc(), scene);
 }
 
 /// Waits for what is done since long ago and for a name without an entry, while an entry is pending.
@@ -190,5 +208,5 @@ pub(crate) fn waits_at_once<R: Wait + Abort, J: Naming>(rt: &R, alloc: Global, b
 
 #[test]
 fn waits_for_what_is_settled_end_at_once(rt: HostRuntime) {
-    on_a_board(&rt, rt.alloc(), Scene::WaitsAtOnce);
+    on_a_board(&rt, rt.alloc(), Scene::alone(Act::WaitsAtOnce));
 }

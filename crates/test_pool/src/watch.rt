@@ -1,6 +1,10 @@
 //! How long the tests wait, in milliseconds.
 
+use crate::scenes::{Scene, play};
+use mw_pool::{Board, Naming};
+use std::alloc::Global;
 use std::process::Abort;
+use std::sync::Wait;
 use std::sync::atomic::{AtomicBool, AtomicU64, Ordering};
 use std::thread;
 use std::thread::Threads;
@@ -32,25 +36,27 @@ impl Watch {
         panic!(rt; "a waking was lost");
     }
 
-    fn ends<T: Drop>(&self, played: T) -> T {
+    fn ends(&self, (): ()) {
         self.is_over.store(true, Ordering::SeqCst);
-        played
     }
 }
 
-/// What is played within the limit, in this thread beside one that watches. Where that thread finds no memory, it is played first,
+/// Plays a scene within the limit, in this thread beside one that watches. Where that thread finds no memory, it is played first,
 /// unwatched.
-pub(crate) fn watched<R: Threads + Clock + Abort + Sync, T: Drop, F: FnOnce() -> T>(
+pub(crate) fn watched<R: Threads + Wait + Clock + Abort + Sync, J: Naming + Send + Sync>(
     rt: &R,
-    play: F,
-) -> T
-    requires { F.pre play }
-{
+    alloc: Global,
+    board: &Board<J>,
+    scene: Scene,
+) {
     let watch = Watch {
         is_over: AtomicBool::new(false),
     };
-    let ((), played) = thread::join(rt, || watch.keep(rt), || watch.ends(play()));
-    played
+    thread::join(
+        rt,
+        || watch.keep(rt),
+        || watch.ends(play(rt, alloc, board, scene)),
+    );
 }
 
 /// Waits until others sleep.

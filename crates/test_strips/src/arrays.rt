@@ -1,6 +1,6 @@
 //! Arrays: the first thing that is wrong with each, what they show, and images that are written into them.
 
-use mw_c_arrays::{ArrayImage, Bitmap, Code, Grey8, Grey16, Set, levels_of, put_bytes, put_words};
+use mw_c_arrays::{ArrayImage, Bitmap, Code, Grey8, Grey16, Set, put_bytes, put_words};
 use std::process::Abort;
 use std::test::Fail;
 
@@ -134,11 +134,35 @@ fn what_arrays_show(rt: HostRuntime) -> Result<(), Fail> {
 }
 
 #[test]
-fn images_in_arrays(rt: HostRuntime) -> Result<(), Fail> {
-    let alloc = rt.alloc();
+fn bytes_in_arrays(rt: HostRuntime) -> Result<(), Fail> {
+    let f = Grey8 {
+        samples: SIX,
+        width: 3,
+        height: 2,
+        maxval: 255,
+    };
+    if f.fault().is_some() {
+        return Err("an image".into());
+    }
     let mut out = [255u8; 6];
-    put_bytes(&levels_of(alloc, SIX, 3, 2)?, &mut out);
+    put_bytes(&f.image(rt.alloc())?, &mut out);
     assert!(rt; out.as_slice() == SIX);
+    Ok(())
+}
+
+#[test]
+fn sets_in_arrays(rt: HostRuntime) -> Result<(), Fail> {
+    let f = ArrayImage::Pixels(Set {
+        pixels: SIX,
+        width: 3,
+        height: 2,
+    });
+    if f.fault().is_some() {
+        return Err("a set".into());
+    }
+    let mut out = [255u8; 6];
+    put_bytes(&f.image(rt.alloc())?, &mut out);
+    assert!(rt; out == [1, 0, 1, 1, 1, 1]);
     Ok(())
 }
 

@@ -1,12 +1,12 @@
 //! Elements, and arrays with which nothing is wrong.
 
 ghost use Rattle.std.specs.Prelude.{◌≡◌, ◌≤◌, replicate};
-ghost use Rattle.mw_c_arrays.specs.Sources.{IsSource, picture_in};
+ghost use Rattle.mw_c_arrays.specs.Sources.{IsArrayImage, picture_in};
 
 use mw_c_strips::{ArrayImage, Element, Grey8, Grey16, NoMemory, Set};
 use mw_model::Kind;
 use mw_pixel::{Pixel, copies};
-use mw_reference::PlainImage;
+use mw_reference::ReferenceImage;
 use std::alloc::Global;
 use std::process::Abort;
 use std::sync::Arc;
@@ -69,7 +69,7 @@ pub(crate) fn scene(
     kind: Kind,
     sides: (u32, u32),
     maxval: u16,
-) -> PlainImage {
+) -> ReferenceImage {
     let (width, height) = sides;
     match noise(alloc, kind, width, height, maxval) {
         Ok(image) => image,
@@ -78,7 +78,7 @@ pub(crate) fn scene(
 }
 
 /// The levels in bytes.
-pub(crate) fn bytes_of(rt: &impl Abort, alloc: Global, image: &PlainImage) -> Vec<u8> {
+pub(crate) fn bytes_of(rt: &impl Abort, alloc: Global, image: &ReferenceImage) -> Vec<u8> {
     match row_of::<u8>(alloc, image.samples()) {
         Ok(samples) => samples,
         Err(_fault) => panic!(rt; "levels of one byte"),
@@ -103,7 +103,7 @@ pub(crate) fn grey8<'a>(
     height: u32,
     maxval: u32,
 ) -> ArrayImage<'a>
-    ensures sound { IsSource result }
+    ensures sound { IsArrayImage result }
     ensures small { (picture_in result).maxval ≤ 255 }
 {
     let f = Grey8 {
@@ -126,7 +126,7 @@ pub(crate) fn grey16<'a>(
     height: u32,
     maxval: u32,
 ) -> ArrayImage<'a>
-    ensures sound { IsSource result }
+    ensures sound { IsArrayImage result }
     ensures high { (256 ≤ (picture_in result).maxval) × ((picture_in result).maxval ≤ 65535) }
 {
     let f = Grey16 {
@@ -143,7 +143,7 @@ pub(crate) fn grey16<'a>(
 
 /// The set of the bytes that are not 0.
 pub(crate) fn set<'a>(rt: &impl Abort, pixels: &'a [u8], width: u32, height: u32) -> ArrayImage<'a>
-    ensures sound { IsSource result }
+    ensures sound { IsArrayImage result }
     ensures small { (picture_in result).maxval ≤ 255 }
 {
     let f = Set {

@@ -1,7 +1,7 @@
 //! Operators from array to array by one word, and the same by other ways.
 
 ghost use Rattle.std.specs.Prelude.{◌≡◌, length, IfErr};
-ghost use Rattle.mw_c_arrays.specs.Sources.{IsSource, picture_in, source_count};
+ghost use Rattle.mw_c_arrays.specs.Sources.{IsArrayImage, array_sample_count, picture_in};
 
 use crate::given::even;
 use mw_c_strips::{
@@ -9,7 +9,7 @@ use mw_c_strips::{
     gradient_rows_into, rank_into, rank_rows_into, residue_into, slide_into, slide_rows_into,
 };
 use mw_model::{FlatOp, Name, NoMemory, Offset};
-use mw_reference::PlainImage;
+use mw_reference::ReferenceImage;
 use std::alloc::Global;
 use std::process::Abort;
 use std::sync::Arc;
@@ -46,8 +46,8 @@ pub(crate) fn write<P: Sample>(
     b: &Arc<Element>,
     out: &mut [P],
 ) -> Result<(), NoMemory>
-    requires sound { IsSource f }
-    requires room { length out.old ≡ source_count f }
+    requires sound { IsArrayImage f }
+    requires room { length out.old ≡ array_sample_count f }
     requires stands { P.stands (picture_in f).maxval }
     ensures kept { IfErr result (λ _. out.new ≡ out.old) }
 {
@@ -68,7 +68,7 @@ pub(crate) fn written<P: Sample>(
     f: ArrayImage<'_>,
     b: &Arc<Element>,
 ) -> Vec<P>
-    requires sound { IsSource f }
+    requires sound { IsArrayImage f }
     requires stands { P.stands (picture_in f).maxval }
 {
     let mut out = even(rt, alloc, f.count(), P::TOP);
@@ -113,7 +113,7 @@ pub(crate) fn write_rows<P: Sample>(
     first: u32,
     out: &mut [P],
 ) -> Result<bool, NoMemory>
-    requires sound { IsSource f }
+    requires sound { IsArrayImage f }
     requires stands { P.stands (picture_in f).maxval }
 {
     if !are_rows(f, first, out.len()) {
@@ -145,9 +145,9 @@ pub(crate) fn operation(job: Job, n: Name) -> FlatOp {
 pub(crate) fn plainly(
     alloc: Global,
     job: Job,
-    image: &PlainImage,
+    image: &ReferenceImage,
     b: &[Offset],
-) -> Result<PlainImage, NoMemory> {
+) -> Result<ReferenceImage, NoMemory> {
     match job {
         Job::Slide(ExtremumKind::Least) => mw_reference::erosion(alloc, image, b),
         Job::Slide(ExtremumKind::Greatest) => mw_reference::dilation(alloc, image, b),

@@ -9,7 +9,7 @@
 #[cfg(test)]
 mod arrays;
 #[cfg(test)]
-mod beside_plain;
+mod beside_reference;
 #[cfg(test)]
 mod direct;
 #[cfg(test)]

@@ -2,7 +2,7 @@
 //! whichever allocation is refused. In frames of several strips it may be refused between strips that are written.
 
 ghost use Rattle.std.specs.Prelude.{◌≡◌, ◌≤◌, length, replicate};
-ghost use Rattle.mw_c_arrays.specs.Sources.{IsSource, picture_in, source_count};
+ghost use Rattle.mw_c_arrays.specs.Sources.{IsArrayImage, array_sample_count, picture_in};
 
 use crate::direct::{image_of_bytes, shows, shows_rows, wanted};
 use crate::given::{grey8, mixed, set};
@@ -84,8 +84,8 @@ fn write_once(
     b: &Arc<Element>,
     out: &mut [u8],
 ) -> Result<(), NoMemory>
-    requires sound { IsSource f }
-    requires room { length out.old ≡ source_count f }
+    requires sound { IsArrayImage f }
+    requires room { length out.old ≡ array_sample_count f }
     requires small { (picture_in f).maxval ≤ 255 }
 {
     write(alloc, job, f, b, out)
@@ -100,8 +100,8 @@ fn write_again(
     b: &Arc<Element>,
     out: &mut [u8],
 )
-    requires sound { IsSource f }
-    requires room { length out.old ≡ source_count f }
+    requires sound { IsArrayImage f }
+    requires room { length out.old ≡ array_sample_count f }
     requires small { (picture_in f).maxval ≤ 255 }
 {
     if write_once(alloc, job, f, b, out).is_err() {
@@ -111,7 +111,7 @@ fn write_again(
 }
 
 fn written(rt: &impl Abort, alloc: Global, job: Job, f: ArrayImage<'_>, b: &Arc<Element>) -> Vec<u8>
-    requires sound { IsSource f }
+    requires sound { IsArrayImage f }
     requires small { (picture_in f).maxval ≤ 255 }
 {
     let mut out = unwritten(rt, alloc, f.count());
@@ -128,7 +128,7 @@ fn job_is_whole(
     levels: &[u8],
     maxval: u32,
 )
-    requires sound { IsSource f }
+    requires sound { IsArrayImage f }
     requires small { (picture_in f).maxval ≤ 255 }
 {
     let b = corner(rt, alloc);
@@ -194,16 +194,16 @@ fn a_gradient(rt: HostRuntime) {
 }
 
 fn threshold_once(alloc: Global, f: ArrayImage<'_>, out: &mut [u8]) -> Result<(), NoMemory>
-    requires sound { IsSource f }
-    requires room { length out.old ≡ source_count f }
+    requires sound { IsArrayImage f }
+    requires room { length out.old ≡ array_sample_count f }
 {
     threshold_into(alloc, 100, f, out)
 }
 
 /// Writes the set of the places of level 100 or more, once more where memory was refused.
 fn threshold_again(rt: &impl Abort, alloc: Global, f: ArrayImage<'_>, out: &mut [u8])
-    requires sound { IsSource f }
-    requires room { length out.old ≡ source_count f }
+    requires sound { IsArrayImage f }
+    requires room { length out.old ≡ array_sample_count f }
 {
     if threshold_once(alloc, f, out).is_err() {
         assert!(rt; is_unwritten(out));
@@ -212,7 +212,7 @@ fn threshold_again(rt: &impl Abort, alloc: Global, f: ArrayImage<'_>, out: &mut 
 }
 
 fn threshold_of(rt: &impl Abort, alloc: Global, f: ArrayImage<'_>) -> Vec<u8>
-    requires sound { IsSource f }
+    requires sound { IsArrayImage f }
 {
     let mut out = unwritten(rt, alloc, f.count());
     threshold_again(rt, alloc, f, out.as_mut_slice());
@@ -242,7 +242,7 @@ fn rows_once(
     b: &Arc<Element>,
     out: &mut [u8],
 ) -> Result<bool, NoMemory>
-    requires sound { IsSource f }
+    requires sound { IsArrayImage f }
     requires small { (picture_in f).maxval ≤ 255 }
 {
     write_rows(alloc, job, f, b, FIRST, out)
@@ -257,7 +257,7 @@ fn rows_again(
     b: &Arc<Element>,
     out: &mut [u8],
 )
-    requires sound { IsSource f }
+    requires sound { IsArrayImage f }
     requires small { (picture_in f).maxval ≤ 255 }
 {
     match rows_once(alloc, job, f, b, out) {
@@ -276,7 +276,7 @@ fn written_rows(
     f: ArrayImage<'_>,
     b: &Arc<Element>,
 ) -> Vec<u8>
-    requires sound { IsSource f }
+    requires sound { IsArrayImage f }
     requires small { (picture_in f).maxval ≤ 255 }
 {
     let mut out = unwritten(rt, alloc, ROWS_COUNT);

@@ -1,6 +1,6 @@
 //! Rows that are made alone, beside the same rows of all that is made.
 
-ghost use Rattle.mw_c_arrays.specs.Sources.{IsSource, picture_in};
+ghost use Rattle.mw_c_arrays.specs.Sources.{IsArrayImage, picture_in};
 
 use crate::given::{ELEMENTS, bytes_of, even, grey8, grey16, mixed, scene, set, shared, various};
 use crate::jobs::{ROW_JOBS, RowJob, whole_of, write_rows, written};
@@ -41,7 +41,7 @@ fn made<P: Sample>(
     b: &Arc<Element>,
     rows: (u32, u32),
 ) -> Vec<P>
-    requires sound { IsSource f }
+    requires sound { IsArrayImage f }
     requires stands { P.stands (picture_in f).maxval }
 {
     let (first, end) = rows;
@@ -61,7 +61,7 @@ fn rows_are_whole<P: Sample>(
     b: &Arc<Element>,
     rows: (u32, u32),
 )
-    requires sound { IsSource f }
+    requires sound { IsArrayImage f }
     requires stands { P.stands (picture_in f).maxval }
 {
     let whole = written::<P>(rt, alloc, whole_of(job), f, b);
@@ -78,7 +78,7 @@ fn all_rows_are_whole<P: Sample>(
     f: ArrayImage<'_>,
     b: &Arc<Element>,
 )
-    requires sound { IsSource f }
+    requires sound { IsArrayImage f }
     requires stands { P.stands (picture_in f).maxval }
 {
     let whole = written::<P>(rt, alloc, whole_of(job), f, b);
@@ -93,7 +93,7 @@ fn all_rows_are_whole<P: Sample>(
 
 /// Stops where any rows of a job by an element are others than those of all that it makes.
 fn jobs_are_whole<P: Sample>(rt: &impl Abort, alloc: Global, f: ArrayImage<'_>)
-    requires sound { IsSource f }
+    requires sound { IsArrayImage f }
     requires stands { P.stands (picture_in f).maxval }
 {
     for bitmap in ELEMENTS {

@@ -1,6 +1,6 @@
 //! Frames of several strips beside the same in one piece.
 
-ghost use Rattle.mw_c_arrays.specs.Sources.{IsSource, picture_in};
+ghost use Rattle.mw_c_arrays.specs.Sources.{IsArrayImage, picture_in};
 ghost use Rattle.mw_model.specs.Pictures.{IsImage};
 
 use crate::direct::{image_of_bytes, image_of_words, shows, wanted};
@@ -37,7 +37,7 @@ fn job_is_whole<P: Sample>(
     image: &Image,
     b: &Arc<Element>,
 )
-    requires sound { IsSource f }
+    requires sound { IsArrayImage f }
     requires stands { P.stands (picture_in f).maxval }
     requires image { IsImage image.now }
 {

@@ -21,8 +21,7 @@ returns-in-Ok-Quit g c =
     let e = c.in-Ok-Quit.ensures in
     let ran = e.ran start_state c.requires.stands in
     served-session old new c.args.tally.now.core tally.core tally (Ok c.in-Ok-Quit.field-0) 0 c.requires.log ran.0 ran.1
-    (subst (λ o. TellsBy old new tally (Ok o)) (sym c.in-Ok-Quit.field-0-is) (refl, refl))
-    (record { few_reads = e.few_reads; read_fault = e.read_fault; write_fault = e.write_fault; reader_failed = e.reader_failed; writer_failed = e.writer_failed })
+    (subst (λ o. TellsBy old new tally (Ok o)) (sym c.in-Ok-Quit.field-0-is) (refl, refl)) e.failures
     (ap (λ o. end_status (Ok o)) (sym c.in-Ok-Quit.field-0-is))
 
 pub returns-in-Ok-Ended : goal.returns-in-Ok-Ended
@@ -42,8 +41,7 @@ returns-in-Ok-Ended g c =
     let wrote = subst (λ l. Wrote old.told new.told l c.send-told.result) line c.send-told.ensures.wrote in
     served-session old new c.args.tally.now.core tally.core tally (Ok c.in-Ok-Ended.field-0) 1 c.requires.log ran.0 ran.1
     (subst (λ o. TellsBy old new tally (Ok o)) (sym c.in-Ok-Ended.field-0-is)
-    (told-line old new (end_line tally.line c.in-Ok-Ended.code) c.send-told.result wrote c.send-told.ensures.kept _ c.send-told.ensures.flag))
-    (record { few_reads = e.few_reads; read_fault = e.read_fault; write_fault = e.write_fault; reader_failed = e.reader_failed; writer_failed = e.writer_failed })
+    (told-line old new (end_line tally.line c.in-Ok-Ended.code) c.send-told.result wrote c.send-told.ensures.remembers.kept _ c.send-told.ensures.remembers.flag)) e.failures
     (ap (λ o. end_status (Ok o)) (sym c.in-Ok-Ended.field-0-is))
 
 pub returns-in-Err : goal.returns-in-Err
@@ -60,6 +58,5 @@ returns-in-Err g c =
     let e = c.in-Err.ensures in
     let ran = e.ran start_state c.requires.stands in
     served-session old new c.args.tally.now.core tally.core tally (Err c.in-Err.fault) 1 c.requires.log ran.0 ran.1
-    (told-line old new (fault_line c.in-Err.fault) c.tell-told.result c.tell-told.ensures.wrote c.tell-told.ensures.kept _ c.tell-told.ensures.flag)
-    (record { few_reads = e.few_reads; read_fault = e.read_fault; write_fault = e.write_fault; reader_failed = e.reader_failed; writer_failed = e.writer_failed })
+    (told-line old new (fault_line c.in-Err.fault) c.tell-told.result c.tell-told.ensures.wrote c.tell-told.ensures.remembers.kept _ c.tell-told.ensures.remembers.flag) e.failures
     refl

@@ -1,5 +1,5 @@
 use Rattle.std.proofs.Common.{cond, ◌∙◌}
-use Rattle.mw_model.specs.Places.{box_offsets}
+use Rattle.mw_model.specs.Rectangles.{box_offsets}
 use Rattle.mw_model.specs.Windows.{seen_at}
 use Rattle.mw_offset.proofs.mw_line.Tiles.{tile_made, on_frame}
 use Rattle.mw_offset.specs.mw_pixel_words.Packed.{samples_of}

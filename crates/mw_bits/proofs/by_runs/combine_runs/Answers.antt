@@ -3,7 +3,7 @@ use Rattle.std.specs.List.{AllByRecursion}
 use Rattle.mw_model.proofs.mw_facts.Alls.{all-weaker}
 use Rattle.mw_offset.proofs.mw_line.Folds.{IsExtremum}
 use Rattle.mw_offset.specs.mw_element_runs.declared.runs.Run.{Run}
-use Rattle.mw_offset.specs.mw_element_runs.Runs.{HasRoom}
+use Rattle.mw_offset.specs.mw_element_runs.Runs.{RunHasRoom}
 use Rattle.mw_offset.proofs.Gathers.{gather_below, all_below, IsDoubled, grown_more, run_value, none_gathered, gathered_between}
 use Rattle.mw_offset.specs.mw_pixel_words.Packed.{bit_of}
 use Rattle.mw_bits_rows.specs.Rows.{laid_bits}
@@ -23,7 +23,7 @@ sizes-init g c =
     let known = c.next_size-sizes.ensures in
     let least-is : 1 ≡ first.least = sym known.least in
     let grown : IsDoubled f cells cells first.least = subst (IsDoubled f cells cells) least-is (record { positive = omega arith; size = refl; done = λ p d le. refl }) in
-    let rooms : AllByRecursion (HasRoom e wide (64 * length out) (length cells)) runs = rw (length-laid_bits c.args.cells.now) c.requires.room in
+    let rooms : AllByRecursion (RunHasRoom e wide (64 * length out) (length cells)) runs = rw (length-laid_bits c.args.cells.now) c.requires.room in
     record {
       more = omega (arith, known.more);
       twice = omega (arith, known.twice);
@@ -57,7 +57,7 @@ sizes-preserved g c =
     let later = length-laid_bits made in
     let left = length cells - (least + (next - least)) + 1 in
     let on : least + (next - least) ≡ after.least = omega (arith, before.more, known.least) in
-    let rooms : AllByRecursion (HasRoom e wide (64 * length out) (length cells)) runs = rw whole c.requires.room in
+    let rooms : AllByRecursion (RunHasRoom e wide (64 * length out) (length cells)) runs = rw whole c.requires.room in
     let fits : next ≤ length cells = omega (arith, c.requires.within) in
     let grown : IsDoubled f cells (laid_bits made) after.least = subst (IsDoubled f cells (laid_bits made)) on
     (grown_more f laws cells (laid_bits c.sizes.cells) (laid_bits made) least (next - least) left before.grown (omega (arith, before.twice)) (omega (arith, before.more)) refl (omega arith)

@@ -1,6 +1,6 @@
 use Rattle.std.proofs.Common.{◌≡◌, ℕ, ◌+◌, ◌*◌, ◌/◌, ◌<◌, length, take, fold, IfSome}
 use Rattle.mw_offset.specs.mw_element_runs.Runs.{two_parts}
-use Rattle.mw_offset.specs.Places.{sized_below}
+use Rattle.mw_offset.specs.MergedAt.{sized_below}
 use Rattle.mw_offset.specs.mw_pixel_words.Packed.{bit_of}
 use Rattle.mw_bits_rows.specs.Rows.{laid_bits}
 use Rattle.mw_bits.specs.Waiting.{with_waiting}

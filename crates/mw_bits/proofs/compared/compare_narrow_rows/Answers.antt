@@ -1,6 +1,6 @@
 use Rattle.std.proofs.Common.{◌≡◌, ℕ, ◌*◌, List, map, refl, ap, arith, ◌∙◌}
 use Rattle.std.proofs.lemmas.List.{length-map}
-use Rattle.mw_model.specs.declared.places.Rect.{Rect}
+use Rattle.mw_model.specs.declared.offsets.Rect.{Rect}
 use Rattle.mw_offset.specs.mw_pixel_words.Packed.{stride_of}
 use Rattle.mw_bits_rows.proofs.Packs.{samples_packed}
 use Rattle.mw_bits.proofs.NarrowRows.{narrow_cell, narrow_done}

@@ -1,8 +1,8 @@
 use Rattle.std.proofs.Common.{◌≡◌, ◌+◌, ◌*◌, ℤ, pos, ◌+ℤ◌, ◌-ℤ◌, get_or, to_z, of_z, w64, ap, ◌∙◌, arith}
 use Rattle.std.proofs.lemmas.Int.{ints}
 use Rattle.std.proofs.lemmas.List.{get_or_default}
-use Rattle.mw_model.specs.declared.places.Offset.{Offset}
-use Rattle.mw_model.specs.declared.places.Rect.{Rect}
+use Rattle.mw_model.specs.declared.offsets.Offset.{Offset}
+use Rattle.mw_model.specs.declared.offsets.Rect.{Rect}
 use Rattle.mw_model.specs.Rasters.{raster, cell_at}
 use Rattle.mw_model.specs.Windows.{seen_at}
 use Rattle.mw_offset.specs.mw_lane.Shifted.{merge_at}

@@ -1,6 +1,6 @@
 use Rattle.std.proofs.Common.{◌≡◌, ◌+◌, ◌-◌, ◌*◌, ℕ, List, length, take, drop, map, get_or, ap, arith, ◌∙◌, length-take, length-drop}
 use Rattle.std.proofs.lemmas.List.{length-map}
-use Rattle.mw_model.specs.declared.places.Rect.{Rect}
+use Rattle.mw_model.specs.declared.offsets.Rect.{Rect}
 use Rattle.mw_offset.proofs.mw_line.Rows.{rows_fit}
 use Rattle.mw_offset.specs.mw_pixel_words.Packed.{stride_of}
 use Rattle.mw_offset.proofs.mw_pixel_words.Done.{bit_rows_more_by}

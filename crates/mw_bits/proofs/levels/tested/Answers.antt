@@ -1,6 +1,6 @@
 use Rattle.std.proofs.Common.{◌≡◌, ℕ, List, length, ap, ◌∙◌, arith}
 use Rattle.mw_model.proofs.mw_facts.Elements.{take-written}
-use Rattle.mw_model.specs.declared.places.Rect.{Rect}
+use Rattle.mw_model.specs.declared.offsets.Rect.{Rect}
 use Rattle.mw_model.specs.Rasters.{Raster}
 use Rattle.mw_offset.specs.mw_pixel_words.Packed.{samples_of}
 use Rattle.mw_bits.proofs.levels.tested.Goals as goal

@@ -1,5 +1,5 @@
 use Rattle.std.proofs.Common.{◌*◌, ap, sym, ◌∙◌}
-use Rattle.mw_model.specs.declared.places.Rect.{Rect}
+use Rattle.mw_model.specs.declared.offsets.Rect.{Rect}
 use Rattle.mw_offset.specs.mw_pixel_words.Packed.{stride_of, samples_of}
 use Rattle.mw_bits.proofs.Pairings.{paired_none, within_bits}
 use Rattle.mw_bits.proofs.pairs.is_within.Goals as goal

@@ -1,6 +1,6 @@
 use Rattle.std.proofs.Common.{◌≡◌, ℕ, ap, refl, ◌∙◌, ◌+◌, ◌-◌, ◌*◌, drop, length-take, arith}
 use Rattle.mw_offset.specs.mw_pixel_words.Packed.{stride_of}
-use Rattle.mw_model.specs.declared.places.Rect.{Rect}
+use Rattle.mw_model.specs.declared.offsets.Rect.{Rect}
 use Rattle.mw_bits_rows.proofs.Paddings.{IsNeutral}
 use Rattle.mw_bits.proofs.HeldRows.{copied_rows, rows_still_packed}
 use Rattle.mw_bits.proofs.spread.copy_held.Goals as goal

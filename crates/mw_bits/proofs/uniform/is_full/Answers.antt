@@ -1,5 +1,5 @@
 use Rattle.std.proofs.Common.{ap, sym, below_more, ◌∙◌, arith}
-use Rattle.mw_model.specs.declared.places.Rect.{Rect}
+use Rattle.mw_model.specs.declared.offsets.Rect.{Rect}
 use Rattle.mw_bits.proofs.UniformSeen.{only_by_rows}
 use Rattle.mw_bits.proofs.uniform.is_full.Goals as goal
 

@@ -1,6 +1,6 @@
 use Rattle.std.proofs.Common.{◌+◌, cond, arith, to_z, of_z, w32}
 use Rattle.std.proofs.lemmas.Int.{ints}
-use Rattle.mw_model.specs.Places.{box_offsets}
+use Rattle.mw_model.specs.Rectangles.{box_offsets}
 use Rattle.mw_bits.proofs.UniformSeen.{uniform_neutral, uniform_boxed, pixel_small}
 use Rattle.mw_bits.proofs.uniform.settled_box.Goals as goal
 

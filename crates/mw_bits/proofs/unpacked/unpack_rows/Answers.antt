@@ -1,5 +1,5 @@
 use Rattle.std.proofs.Common.{◌≡◌, ◌+◌, ◌*◌, get_or, ap, arith, ◌∙◌}
-use Rattle.mw_model.specs.declared.places.Rect.{Rect}
+use Rattle.mw_model.specs.declared.offsets.Rect.{Rect}
 use Rattle.mw_offset.proofs.mw_line.Rows.{rows_made_more}
 use Rattle.mw_bits_rows.proofs.Packs.{rows_are, stride_wide}
 use Rattle.mw_bits.proofs.unpacked.unpack_rows.Goals as goal

@@ -1,7 +1,7 @@
 use Rattle.std.proofs.Common.{◌≡◌, ◌<◌, ℕ, ℤ, ap, ◌∙◌, arith, pos, ◌+ℤ◌, to_z, of_z, w64}
 use lib.IntN.{nat_abs}
 use Rattle.std.proofs.lemmas.Int.{ints}
-use Rattle.mw_model.specs.declared.places.Rect.{Rect}
+use Rattle.mw_model.specs.declared.offsets.Rect.{Rect}
 use Rattle.mw_model.specs.Rasters.{raster, cell_at}
 use Rattle.mw_offset.specs.mw_lane.Shifted.{merge_at}
 use Rattle.mw_offset.specs.mw_pixel_words.Packed.{bit_of}

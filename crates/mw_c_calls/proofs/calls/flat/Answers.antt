@@ -3,7 +3,7 @@ use Rattle.std.proofs.lemmas.Result.{IfOk-weaker}
 use Rattle.mw_model.specs.Pictures.{Picture}
 use Rattle.mw_c_arrays.specs.Arrays.{element_in}
 use Rattle.mw_c_arrays.specs.Sound.{IsElementBitmap}
-use Rattle.mw_c_arrays.specs.Sources.{IsSource, picture_in}
+use Rattle.mw_c_arrays.specs.Sources.{IsArrayImage, picture_in}
 use Rattle.mw_c_calls.specs.Calls.{flat_of}
 use Rattle.mw_c_calls.specs.Ways.{way_picture}
 use Rattle.mw_c_calls.proofs.Passed.{passed, room_is, where_none}
@@ -22,7 +22,7 @@ pub write_by-requires : goal.write_by-requires
 write_by-requires g c =
     let none : c.refused.result ≡ None = search rules in
     let parts = passed c.when-number.result c.fault-image.result c.room_fault-room.result c.fault.result (sym c.refused.ensures ∙ none) in
-    let given = where_none c.fault-image.result (IsSource c.args.f) parts.image c.fault-image.ensures.sound in
+    let given = where_none c.fault-image.result (IsArrayImage c.args.f) parts.image c.fault-image.ensures.sound in
     record {
       sound = given;
       element = where_none c.fault.result (IsElementBitmap c.args.b.now) parts.element c.fault.ensures.sound;

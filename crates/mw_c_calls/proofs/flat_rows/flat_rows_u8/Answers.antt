@@ -1,5 +1,5 @@
 use Rattle.std.proofs.Common.{◌≡◌, ◌∙◌, length, map, of_z, rules, sym, to_z, w32}
-use Rattle.mw_c_arrays.specs.Arrays.{element_of, grey_of}
+use Rattle.mw_c_arrays.specs.Arrays.{element_in_bytes, grey_in_array}
 use Rattle.std.proofs.lemmas.List.{map-id}
 use Rattle.mw_c_strips.specs.Rows.{rows_from}
 use Rattle.mw_c_calls.specs.Calls.{flat_of}
@@ -12,8 +12,8 @@ flat_rows-requires c = λ is. is.byte
 pub returns-clause-made : goal.returns-clause-made
 returns-clause-made c zero =
     let same : to_z w32 (of_z w32 c.answer.result) ≡ c.answer.result = search rules in
-    let e = element_of c.args.element_width c.args.element_height c.args.element_x c.args.element_y c.args.element.now in
-    let rows = rows_from c.args.first_row (length c.args.out.now) (flat_of c.args.operation c.args.k e (grey_of c.args.width c.args.height c.args.maxval c.args.samples.now)) in
+    let e = element_in_bytes c.args.element_width c.args.element_height c.args.element_x c.args.element_y c.args.element.now in
+    let rows = rows_from c.args.first_row (length c.args.out.now) (flat_of c.args.operation c.args.k e (grey_in_array c.args.width c.args.height c.args.maxval c.args.samples.now)) in
     sym (map-id c.flat_rows.new.out)
     ∙ written_zero c.flat_rows.result (to_z w32 (of_z w32 c.answer.result)) (map (λ s. s) c.flat_rows.new.out ≡ rows) (same ∙ c.answer.ensures) c.flat_rows.ensures.made zero
 

@@ -4,7 +4,7 @@ use Rattle.mw_model.specs.declared.codes.Code.TheVariants as code
 use Rattle.mw_model.specs.Pictures.{Picture}
 use Rattle.mw_c_arrays.specs.Arrays.{element_in}
 use Rattle.mw_c_arrays.specs.Sound.{IsElementBitmap}
-use Rattle.mw_c_arrays.specs.Sources.{IsSource, picture_in}
+use Rattle.mw_c_arrays.specs.Sources.{IsArrayImage, picture_in}
 use Rattle.mw_c_arrays.proofs.FirstCases.{when_not-none}
 use Rattle.mw_c_strips.specs.Rows.{rows_from}
 use Rattle.mw_c_calls.specs.Calls.{flat_of}
@@ -36,7 +36,7 @@ pub write_rows_by-requires : goal.write_rows_by-requires
 write_rows_by-requires g c =
     let none : c.refused.result ≡ None = search rules in
     let parts = passed c.when-number.result c.fault-image.result c.when-room.result c.fault.result (sym c.refused.ensures ∙ none) in
-    let given = where_none c.fault-image.result (IsSource c.args.f) parts.image c.fault-image.ensures.sound in
+    let given = where_none c.fault-image.result (IsArrayImage c.args.f) parts.image c.fault-image.ensures.sound in
     let one = when_not-none c.has_one_step-one.result code.Param (sym c.when-number.ensures ∙ parts.number) in
     let fits = when_not-none c.are_rows-fits.result code.Length (sym c.when-room.ensures ∙ parts.room) in
     record {

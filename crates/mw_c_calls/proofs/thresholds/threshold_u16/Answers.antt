@@ -1,13 +1,13 @@
 use Rattle.std.proofs.Common.{◌≡◌, ◌∙◌, of_z, rules, to_z, w32}
 use Rattle.mw_model.specs.Flat.{threshold}
-use Rattle.mw_c_arrays.specs.Arrays.{grey_of}
+use Rattle.mw_c_arrays.specs.Arrays.{grey_in_array}
 use Rattle.mw_c_calls.proofs.Answered.{answered, kept_else, written_zero}
 use Rattle.mw_c_calls.proofs.thresholds.threshold_u16.Goals as goal
 
 pub returns-clause-made : goal.returns-clause-made
 returns-clause-made c zero =
     let same : to_z w32 (of_z w32 c.answer.result) ≡ c.answer.result = search rules in
-    let g = threshold c.args.k (grey_of c.args.width c.args.height c.args.maxval c.args.samples.now) in
+    let g = threshold c.args.k (grey_in_array c.args.width c.args.height c.args.maxval c.args.samples.now) in
     written_zero c.upper.result (to_z w32 (of_z w32 c.answer.result)) (c.upper.new.out ≡ g.samples) (same ∙ c.answer.ensures) c.upper.ensures.made zero
 
 pub returns-clause-kept : goal.returns-clause-kept

@@ -33,7 +33,7 @@ returns-then-draws-clause-operator c =
 pub returns-then-draws-clause-sound : goal.returns-then-draws-clause-sound
 returns-then-draws-clause-sound c =
     let given = is_given c.args.op.now c.args.image.now c.args.b c.args.c c.shape.result c.input.result c.input-2.result c.in_ok-plan.plan c.requires c.shape.ensures c.input.ensures c.input-2.ensures c.in_ok-plan.ensures.plan in
-    last_sound c.in_ok-plan.plan c.args.image.now c.in_ok-plane.plane (runnable _ _ _ _ _ _ _ _ given) c.requires c.in_ok-plane.ensures c.is_sound.ensures.picture c.is_sound.ensures.maxval
+    last_sound c.in_ok-plan.plan c.args.image.now c.in_ok-plane.plane (runnable _ _ _ _ _ _ _ _ given) c.requires c.in_ok-plane.ensures c.facts_of.ensures.picture c.facts_of.ensures.maxval
 
 pub numbers-requires : goal.numbers-requires
 numbers-requires c =

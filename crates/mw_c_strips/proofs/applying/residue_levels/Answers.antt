@@ -6,7 +6,7 @@ use Rattle.mw_model.proofs.ImagePlaces.{shape_itself}
 use Rattle.mw_plan.specs.Steps.{filtering, other, residue, sliding}
 use Rattle.mw_c_arrays.specs.Sources.{picture_in}
 use Rattle.mw_c_arrays.proofs.SourceImages.{source_image}
-use Rattle.mw_c_strips.specs.Layers.{rest, rule_picture}
+use Rattle.mw_c_strips.specs.Layers.{filter_residue, rule_picture}
 use Rattle.mw_c_strips.proofs.Filtered.{filtered_is, refilled_image, refilled_is, rest_is, same_shape, slid_alike}
 use Rattle.mw_c_strips.proofs.applying.residue_levels.Goals as goal
 
@@ -52,4 +52,4 @@ returns-clause-made g c =
     let h = sliding (other x) turned between in
     let first : between ≡ sliding x e f = c.like-between.ensures.image ∙ refilled_is x e f g' samples (c.slid.ensures f) same in
     let made : h ≡ filtering x e f = filtered_is x e turned f between h c.in_ok-back.ensures first refl in
-    IfOk-weaker c.left_over.result (λ _. map g.P.Pixel.level c.left_over.new.out ≡ (rest x f h).samples) (λ _. map g.P.Pixel.level c.left_over.new.out ≡ (residue x e f).samples) (λ _ is. is ∙ ap (λ (p : Picture). p.samples) (rest_is x e f h made)) c.left_over.ensures.made
+    IfOk-weaker c.left_over.result (λ _. map g.P.Pixel.level c.left_over.new.out ≡ (filter_residue x f h).samples) (λ _. map g.P.Pixel.level c.left_over.new.out ≡ (residue x e f).samples) (λ _ is. is ∙ ap (λ (p : Picture). p.samples) (rest_is x e f h made)) c.left_over.ensures.made

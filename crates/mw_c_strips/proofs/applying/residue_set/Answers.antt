@@ -6,7 +6,7 @@ use Rattle.mw_model.proofs.ImagePlaces.{shape_itself}
 use Rattle.mw_plan.specs.Steps.{filtering, other, residue, sliding}
 use Rattle.mw_c_arrays.specs.Sources.{picture_in}
 use Rattle.mw_c_arrays.proofs.SourceImages.{source_image}
-use Rattle.mw_c_strips.specs.Layers.{rest, rule_picture}
+use Rattle.mw_c_strips.specs.Layers.{filter_residue, rule_picture}
 use Rattle.mw_c_strips.proofs.Filtered.{filtered_is, rest_is, slid_alike, slid_image}
 use Rattle.mw_c_strips.proofs.OriginImages.{set_top}
 use Rattle.mw_c_strips.proofs.applying.residue_set.Goals as goal
@@ -43,4 +43,4 @@ returns-clause-made g c =
     let h = sliding (other x) turned image in
     let first : image ≡ sliding x e f = c.in_ok-image.ensures ∙ c.slid.ensures f in
     let made : h ≡ filtering x e f = filtered_is x e turned f image h c.in_ok-back.ensures first refl in
-    IfOk-weaker c.left_over.result (λ _. map g.P.Pixel.level c.left_over.new.out ≡ (rest x f h).samples) (λ _. map g.P.Pixel.level c.left_over.new.out ≡ (residue x e f).samples) (λ _ is. is ∙ ap (λ (p : Picture). p.samples) (rest_is x e f h made)) c.left_over.ensures.made
+    IfOk-weaker c.left_over.result (λ _. map g.P.Pixel.level c.left_over.new.out ≡ (filter_residue x f h).samples) (λ _. map g.P.Pixel.level c.left_over.new.out ≡ (residue x e f).samples) (λ _ is. is ∙ ap (λ (p : Picture). p.samples) (rest_is x e f h made)) c.left_over.ensures.made

@@ -1,7 +1,7 @@
 use Rattle.std.proofs.Common.{ℕ, ◌+◌, ◌*◌, ap, ◌∙◌}
 use Rattle.std.specs.Prelude.{slice_index}
 use Rattle.mw_c_arrays.specs.Sources.{picture_in}
-use Rattle.mw_c_strips.proofs.PlainValues.{place_within}
+use Rattle.mw_c_strips.proofs.PixelValues.{place_within}
 use Rattle.mw_c_strips.proofs.origins.level_in_array.Goals as goal
 
 pub level-requires : goal.level-requires

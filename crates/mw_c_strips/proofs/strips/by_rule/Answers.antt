@@ -1,12 +1,12 @@
 use Rattle.std.proofs.Common.{◌≡◌, ℕ, List, [], ◌∷◌, ap, sym, subst, ◌∙◌}
 use Rattle.std.specs.List.{AllByRecursion}
-use Rattle.mw_model.specs.declared.places.Rect.{Rect}
-use Rattle.mw_model.specs.Places.{IsWithin}
+use Rattle.mw_model.specs.declared.offsets.Rect.{Rect}
+use Rattle.mw_model.specs.Rectangles.{IsWithin}
 use Rattle.mw_model.specs.Tasks.{place_read}
 use Rattle.mw_tile.specs.Windows.{SourceWindow, window_of}
 use Rattle.mw_step_task.specs.Meanings.{meaning}
 use Rattle.mw_step_task.specs.WindowTasks.{IsBounded}
-use Rattle.mw_c_strips.specs.Origins.{picture_of}
+use Rattle.mw_c_strips.specs.Origins.{origin_picture}
 use Rattle.mw_c_strips.proofs.OriginImages.{origin_image}
 use Rattle.std.proofs.lemmas.Result.{IfOk-weaker}
 use Rattle.mw_model.specs.Pictures.{Picture}
@@ -17,18 +17,18 @@ use Rattle.mw_c_strips.proofs.strips.by_rule.Goals as goal
 
 pub grown-place-requires : goal.grown-place-requires
 grown-place-requires c =
-    let f = picture_of c.args.f in
+    let f = origin_picture c.args.f in
     subst (λ (m : ℕ). IsWithin c.args.strip m c.height.result) (sym c.width.ensures) (subst (λ (n : ℕ). IsWithin c.args.strip f.width n) (sym c.height.ensures) (strip_inside c.args.strip f c.requires.strip))
 
 pub window-requires : goal.window-requires
 window-requires c = record {
   sound = c.requires.sound;
-  strip = subst (λ (t : Rect). IsStrip t (picture_of c.args.f)) (sym c.grown-place.ensures.value) (read_strip c.width.result c.height.result c.args.strip c.reach.result (picture_of c.args.f) c.width.ensures c.height.ensures c.requires.strip);
+  strip = subst (λ (t : Rect). IsStrip t (origin_picture c.args.f)) (sym c.grown-place.ensures.value) (read_strip c.width.result c.height.result c.args.strip c.reach.result (origin_picture c.args.f) c.width.ensures c.height.ensures c.requires.strip);
 }
 
 pub made_of-requires : goal.made_of-requires
 made_of-requires c =
-    let f = picture_of c.args.f in
+    let f = origin_picture c.args.f in
     let s = meaning c.in_ok-step.step in
     let ws = c.in_ok-windows.windows.items in
     let place = place_is s f c.args.strip c.grown-place.result c.reach.result c.width.result c.height.result c.width.ensures c.height.ensures c.reach.ensures c.grown-place.ensures.value in
@@ -41,7 +41,7 @@ made_of-requires c =
 
 pub returns : goal.returns
 returns c =
-    let f = picture_of c.args.f in
+    let f = origin_picture c.args.f in
     let s = meaning c.in_ok-step.step in
     let ws = c.in_ok-windows.windows.items in
     let place = place_is s f c.args.strip c.grown-place.result c.reach.result c.width.result c.height.result c.width.ensures c.height.ensures c.reach.ensures c.grown-place.ensures.value in

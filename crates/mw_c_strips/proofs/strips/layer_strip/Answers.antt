@@ -1,6 +1,6 @@
 use Rattle.std.proofs.Common.{◌≡◌, sym, subst}
 use Rattle.std.specs.Prelude.{IfOk}
-use Rattle.mw_c_strips.specs.Origins.{IsOrigin, picture_of}
+use Rattle.mw_c_strips.specs.Origins.{IsOrigin, origin_picture}
 use Rattle.mw_c_strips.specs.declared.layers.Layer.{Layer}
 use Rattle.mw_c_strips.specs.Layers.{layer_picture, origin_of}
 use Rattle.mw_c_strips.specs.Parts.{IsStrip, part_of}
@@ -19,7 +19,7 @@ returns-in-Itself c = subst (λ (l : Layer). IfOk c.rows.result (λ g. g ≡ par
 pub by_rule-requires : goal.by_rule-requires
 by_rule-requires c = record {
   sound = subst (λ (l : Layer). IsOrigin (origin_of l)) c.in-By.is c.requires.sound;
-  strip = strip_below c.in-By.rule (picture_of c.in-By.f) c.args.strip (subst (λ (l : Layer). IsStrip c.args.strip (layer_picture l)) c.in-By.is c.requires.strip);
+  strip = strip_below c.in-By.rule (origin_picture c.in-By.f) c.args.strip (subst (λ (l : Layer). IsStrip c.args.strip (layer_picture l)) c.in-By.is c.requires.strip);
 }
 
 pub returns-in-By : goal.returns-in-By

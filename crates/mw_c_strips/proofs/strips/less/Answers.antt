@@ -3,7 +3,7 @@ use Rattle.std.specs.List.{AllByRecursion}
 use Rattle.std.proofs.lemmas.Result.{IfOk-weaker}
 use Rattle.mw_model.specs.Flat.{minus}
 use Rattle.mw_model.specs.Pictures.{Picture}
-use Rattle.mw_model.specs.Places.{rect}
+use Rattle.mw_model.specs.Rectangles.{rect}
 use Rattle.mw_model.specs.PlanSteps.{Minus}
 use Rattle.mw_tile.specs.Windows.{SourceWindow}
 use Rattle.mw_step_task.specs.WindowTasks.{IsBounded}

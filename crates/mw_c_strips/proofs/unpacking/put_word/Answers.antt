@@ -1,7 +1,7 @@
 use Rattle.std.proofs.Common.{ℕ, List, ◌+◌, ◌-◌, ◌*◌, get_or, refl, ap, arith, ◌∙◌}
 use Rattle.std.specs.Int.{bit_at}
 use Rattle.mw_bits_rows.proofs.Packs.{parts_more}
-use Rattle.mw_c_strips.proofs.Marked.{table_pixels}
+use Rattle.mw_c_strips.proofs.ByteTables.{table_pixels}
 use Rattle.mw_c_strips.proofs.unpacking.put_word.Goals as goal
 
 pub loop-j-preserved : goal.loop-j-preserved

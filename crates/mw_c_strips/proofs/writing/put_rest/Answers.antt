@@ -1,8 +1,8 @@
 use Rattle.std.proofs.Common.{◌≡◌, ℕ, ◌+◌, length, ap, arith, subst, sym, ◌∙◌}
 use Rattle.mw_c_strips.specs.declared.origins.Origin.{Origin}
-use Rattle.mw_c_strips.specs.Origins.{picture_of}
+use Rattle.mw_c_strips.specs.Origins.{origin_picture}
 use Rattle.mw_c_strips.specs.Layers.{formula_picture}
-use Rattle.mw_c_strips.specs.Parts.{HasRows}
+use Rattle.mw_c_strips.specs.Parts.{HasImageRows}
 use Rattle.mw_c_strips.specs.Rows.{EndAt, rows_from}
 use Rattle.mw_c_strips.proofs.Formulas.{formula_frame, formula_is_picture, formula_sides}
 use Rattle.mw_c_strips.proofs.SomeRows.{strip_room}
@@ -16,7 +16,7 @@ strip_from-strip-requires g c =
 pub put_strip-requires : goal.put_strip-requires
 put_strip-requires g c =
     let f = formula_picture c.args.formula in
-    let wide : c.width-width.result ≡ f.width = c.width-width.ensures ∙ ap (λ (s : Origin). (picture_of s).width) c.first_origin-f.ensures ∙ sym (formula_frame c.args.formula).0 in
+    let wide : c.width-width.result ≡ f.width = c.width-width.ensures ∙ ap (λ (s : Origin). (origin_picture s).width) c.first_origin-f.ensures ∙ sym (formula_frame c.args.formula).0 in
     let r = c.strip_from-strip.result in
     let ends = c.strips.invariant.ends in
     let place = c.strip_from-strip.ensures.place in
@@ -27,7 +27,7 @@ put_strip-requires g c =
       behind = omega (arith, c.strips.invariant.behind, place);
       room = strip_room c.args.first c.args.end (length c.strips.out) f r strip ends c.strip_from-strip.ensures.before;
       stands = c.requires.stands;
-      before = subst (λ (n : ℕ). HasRows g.P.Pixel.level f c.args.first n c.strips.out) (sym place) c.strips.invariant.rows;
+      before = subst (λ (n : ℕ). HasImageRows g.P.Pixel.level f c.args.first n c.strips.out) (sym place) c.strips.invariant.rows;
     }
 
 pub strips-preserved : goal.strips-preserved
@@ -36,7 +36,7 @@ strips-preserved g c =
     let r = c.strip_from-strip.result in
     let place = c.strip_from-strip.ensures.place in
     record {
-      rows = subst (λ (n : ℕ). HasRows g.P.Pixel.level f c.args.first (n + r.height) c.put_strip.new.out) place c.put_strip.ensures;
+      rows = subst (λ (n : ℕ). HasImageRows g.P.Pixel.level f c.args.first (n + r.height) c.put_strip.new.out) place c.put_strip.ensures;
       ends = subst (λ (n : ℕ). EndAt c.args.first c.args.end n f) (sym c.put_strip.auto.out) c.strips.invariant.ends;
       behind = omega (arith, c.strips.invariant.behind);
       within = omega (arith, c.strip_from-strip.ensures.before, place);
@@ -45,7 +45,7 @@ strips-preserved g c =
 pub strips-smaller : goal.strips-smaller
 strips-smaller g c =
     let f = formula_picture c.args.formula in
-    let wide : c.width-width.result ≡ f.width = c.width-width.ensures ∙ ap (λ (s : Origin). (picture_of s).width) c.first_origin-f.ensures ∙ sym (formula_frame c.args.formula).0 in
+    let wide : c.width-width.result ≡ f.width = c.width-width.ensures ∙ ap (λ (s : Origin). (origin_picture s).width) c.first_origin-f.ensures ∙ sym (formula_frame c.args.formula).0 in
     let some = (c.strip_from-strip.ensures.strip f wide c.strips.invariant.ends.within).some in
     omega (arith, some, c.strips-test.true)
 
@@ -60,6 +60,6 @@ returns g c =
     let first = c.args.first in
     let out = c.strips.out in
     let end : c.strips.done ≡ c.args.end = omega (arith, c.strips-test.false, c.strips.invariant.within) in
-    let rows : HasRows g.P.Pixel.level f first c.args.end out = subst (λ (n : ℕ). HasRows g.P.Pixel.level f first n out) end c.strips.invariant.rows in
+    let rows : HasImageRows g.P.Pixel.level f first c.args.end out = subst (λ (n : ℕ). HasImageRows g.P.Pixel.level f first n out) end c.strips.invariant.rows in
     let count : length out ≡ length c.args.out.now = omega (arith, c.strips.invariant.ends.samples, c.requires.ends.samples) in
     all_cells g.P.Pixel.level f first c.args.end out (formula_is_picture c.args.formula c.requires.sound).size c.strips.invariant.ends rows ∙ ap (λ (n : ℕ). rows_from first n f) count

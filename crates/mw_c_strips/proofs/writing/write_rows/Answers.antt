@@ -1,8 +1,8 @@
 use Rattle.std.proofs.Common.{◌≡◌, ℕ, ◌+◌, length, ap, arith, subst, sym, ◌∙◌}
 use Rattle.mw_c_strips.specs.declared.origins.Origin.{Origin}
-use Rattle.mw_c_strips.specs.Origins.{picture_of}
+use Rattle.mw_c_strips.specs.Origins.{origin_picture}
 use Rattle.mw_c_strips.specs.Layers.{formula_picture}
-use Rattle.mw_c_strips.specs.Parts.{HasRows}
+use Rattle.mw_c_strips.specs.Parts.{HasImageRows}
 use Rattle.mw_c_strips.specs.Rows.{EndAt, rows_from}
 use Rattle.mw_c_strips.proofs.Formulas.{formula_frame, formula_is_picture, formula_sides}
 use Rattle.mw_c_strips.proofs.SomeRows.{room_behind, strip_room}
@@ -18,7 +18,7 @@ strip_from-strip-requires g c = record { some = omega (arith, c.rows_of-rows.ens
 pub strip_of-requires : goal.strip_of-requires
 strip_of-requires g c =
     let f = formula_picture c.args.formula in
-    let wide : c.width-width.result ≡ f.width = c.width-width.ensures ∙ ap (λ (s : Origin). (picture_of s).width) c.first_origin-f.ensures ∙ sym (formula_frame c.args.formula).0 in
+    let wide : c.width-width.result ≡ f.width = c.width-width.ensures ∙ ap (λ (s : Origin). (origin_picture s).width) c.first_origin-f.ensures ∙ sym (formula_frame c.args.formula).0 in
     record { sound = c.requires.sound; strip = c.strip_from-strip.ensures.strip f wide c.end_of-end.ensures.within }
 
 pub put_rows-requires : goal.put_rows-requires
@@ -27,7 +27,7 @@ put_rows-requires g c =
     let r = c.strip_from-strip.result in
     let first = c.args.first in
     let count = length c.args.out.now in
-    let wide : c.width-width.result ≡ f.width = c.width-width.ensures ∙ ap (λ (s : Origin). (picture_of s).width) c.first_origin-f.ensures ∙ sym (formula_frame c.args.formula).0 in
+    let wide : c.width-width.result ≡ f.width = c.width-width.ensures ∙ ap (λ (s : Origin). (origin_picture s).width) c.first_origin-f.ensures ∙ sym (formula_frame c.args.formula).0 in
     let strip = c.strip_from-strip.ensures.strip f wide c.end_of-end.ensures.within in
     let row : r.y ≡ first + 0 = omega (arith, c.strip_from-strip.ensures.place) in
     record {
@@ -46,7 +46,7 @@ put_rest-requires g c =
     let f = formula_picture c.args.formula in
     let r = c.strip_from-strip.result in
     let first = c.args.first in
-    let wide : c.width-width.result ≡ f.width = c.width-width.ensures ∙ ap (λ (s : Origin). (picture_of s).width) c.first_origin-f.ensures ∙ sym (formula_frame c.args.formula).0 in
+    let wide : c.width-width.result ≡ f.width = c.width-width.ensures ∙ ap (λ (s : Origin). (origin_picture s).width) c.first_origin-f.ensures ∙ sym (formula_frame c.args.formula).0 in
     let place : r.y ≡ first = c.strip_from-strip.ensures.place in
     let strip = c.strip_from-strip.ensures.strip f wide c.end_of-end.ensures.within in
     let row : r.y ≡ first + 0 = omega (arith, place) in
@@ -57,7 +57,7 @@ put_rest-requires g c =
       within = omega (arith, c.strip_from-strip.ensures.before, place);
       ends = subst (λ (n : ℕ). EndAt first c.end_of-end.result n f) (sym c.put_rows.auto.out) c.end_of-end.ensures;
       stands = c.requires.stands;
-      before = subst (λ (n : ℕ). HasRows g.P.Pixel.level f first (n + r.height) c.put_rows.new.out) place rows;
+      before = subst (λ (n : ℕ). HasImageRows g.P.Pixel.level f first (n + r.height) c.put_rows.new.out) place rows;
     }
 
 pub returns-clause-made : goal.returns-clause-made

@@ -6,4 +6,4 @@ use Rattle.mw_core_ledger.proofs.settling.value_of.Goals as goal
 pub of-requires : goal.of-requires
 of-requires c =
     let P : Tiled → Type 0 = λ p. AllPlaced p in
-    subst P (sym c.into_plane.ensures) (last-full c.args.work c.remaining-whole.ensures.whole c.requires.done)
+    subst P (sym c.into_plane.ensures) (last-full c.args.progress c.remaining-whole.ensures.whole c.requires.done)

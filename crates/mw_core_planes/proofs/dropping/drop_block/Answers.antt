@@ -1,7 +1,7 @@
 use Rattle.std.proofs.Common.{ℕ, ◌+◌, ◌*◌, ◌/◌, ◌%◌, ◌≤◌, Bool, not, ◌&&◌, subst, arith}
 use Rattle.mw_grid.specs.Counts.{in_range}
 use Rattle.mw_grid.specs.Grids.{Tiling, tile_count}
-use Rattle.mw_core_planes.specs.Places.{is_read}
+use Rattle.mw_core_planes.specs.StepPlanes.{is_read}
 use Rattle.mw_core_planes.proofs.Rows.{block_more, row_fits}
 use Rattle.mw_core_planes.proofs.Swept.{swept-then}
 use Rattle.mw_core_planes.proofs.dropping.drop_block.Goals as goal

@@ -3,7 +3,7 @@ use Rattle.std.specs.List.{list_any}
 use Rattle.std.proofs.lemmas.List.{take_all}
 use Rattle.mw_grid.specs.Blocks.{in_block}
 use Rattle.mw_ready.specs.Boards.{is_source}
-use Rattle.mw_core_planes.specs.Places.{is_read}
+use Rattle.mw_core_planes.specs.StepPlanes.{is_read}
 use Rattle.mw_core_planes.proofs.Sources.{source_at, any_more, or_and_one}
 use Rattle.mw_core_planes.proofs.Swept.{all-then, all-same}
 use Rattle.mw_core_planes.proofs.dropping.drop_in_sources.Goals as goal

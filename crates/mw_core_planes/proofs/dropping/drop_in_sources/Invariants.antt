@@ -2,7 +2,7 @@ use Rattle.std.proofs.Common.{take, not, ◌&&◌}
 use Rattle.std.specs.List.{list_any}
 use Rattle.mw_grid.specs.Blocks.{in_block}
 use Rattle.mw_ready.specs.Boards.{is_source}
-use Rattle.mw_core_planes.specs.Places.{is_read, SweptAll}
+use Rattle.mw_core_planes.specs.StepPlanes.{is_read, SweptAll}
 use Rattle.mw_core_planes.proofs.dropping.drop_in_sources.Given as goal
 
 abbrev pub invariant-loop-i : goal.invariant-loop-i

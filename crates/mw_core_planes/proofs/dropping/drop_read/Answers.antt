@@ -1,7 +1,7 @@
 use Rattle.std.proofs.Common.{Bool, not, ◌&&◌, ap, ◌∙◌, arith}
 use Rattle.mw_grid.specs.Blocks.{in_block, sees}
 use Rattle.mw_ready.specs.Boards.{step_reads}
-use Rattle.mw_core_planes.specs.Places.{is_read}
+use Rattle.mw_core_planes.specs.StepPlanes.{is_read}
 use Rattle.mw_core_planes.proofs.Sources.{and_three}
 use Rattle.mw_core_planes.proofs.Swept.{all-same}
 use Rattle.mw_core_planes.proofs.dropping.drop_read.Goals as goal

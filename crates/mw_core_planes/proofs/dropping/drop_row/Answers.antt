@@ -1,7 +1,7 @@
 use Rattle.std.proofs.Common.{◌≡◌, ℕ, ◌+◌, Bool, true, false, not, ◌&&◌, nat_eq, sym, ap, subst, ◌∙◌}
 use Rattle.mw_grid.specs.Counts.{in_range}
 use Rattle.mw_tile_planes.specs.Tiles.{Tiled}
-use Rattle.mw_core_planes.specs.Places.{is_read, Swept}
+use Rattle.mw_core_planes.specs.StepPlanes.{is_read, Swept}
 use Rattle.mw_core_planes.proofs.Rows.{row_skip, row_drop}
 use Rattle.mw_core_planes.proofs.Swept.{swept-one, swept-same, swept-then}
 use Rattle.mw_core_planes.proofs.dropping.drop_row.Goals as goal

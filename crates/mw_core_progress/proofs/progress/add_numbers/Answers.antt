@@ -4,8 +4,8 @@ use Rattle.std.specs.Global.{Vec}
 use Rattle.std.proofs.lemmas.List.{get_or_read}
 use Rattle.mw_model.specs.Plans.{Planned, is_sum}
 use Rattle.mw_core_planes.specs.mw_tile_planes.Sums.{number_in}
-use Rattle.mw_core_planes.specs.Places.{shown, no_place, planes_shown}
-use Rattle.mw_core_planes.specs.declared.places.StepPlane.{StepPlane}
+use Rattle.mw_core_planes.specs.StepPlanes.{shown, no_place, planes_shown}
+use Rattle.mw_core_planes.specs.declared.step_planes.StepPlane.{StepPlane}
 use Rattle.mw_core_progress.specs.ProgressView.{numbers_of}
 use Rattle.mw_core_progress.proofs.Totals.{more_sum, more_none}
 use Rattle.mw_core_progress.proofs.progress.add_numbers.Goals as goal

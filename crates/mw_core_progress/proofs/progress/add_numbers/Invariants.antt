@@ -1,6 +1,6 @@
 use Rattle.std.proofs.Common.{◌≡◌, ◌≤◌, ◌++◌, length, drop, vec_len}
 use Rattle.std.specs.Prelude.{vec_capacity}
-use Rattle.mw_core_planes.specs.Places.{planes_shown}
+use Rattle.mw_core_planes.specs.StepPlanes.{planes_shown}
 use Rattle.mw_core_progress.specs.ProgressView.{numbers_of}
 use Rattle.mw_core_progress.proofs.progress.add_numbers.Given as goal
 

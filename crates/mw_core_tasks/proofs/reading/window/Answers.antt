@@ -10,10 +10,10 @@ use Rattle.mw_core_tasks.proofs.reading.window.Goals as goal
 
 pub window-requires-in-Step-clause-placed : goal.window-requires-in-Step-clause-placed
 window-requires-in-Step-clause-placed c =
-    let Reads : Source → Type 0 = λ s. CanRead c.args.work.now c.args.reading.place s in
-    let Placed : ℕ → Type 0 = λ k. HasAll c.args.work.now.tiling (plane_at c.args.work.now k).tiles c.args.reading.place in
+    let Reads : Source → Type 0 = λ s. CanRead c.args.progress.now c.args.reading.place s in
+    let Placed : ℕ → Type 0 = λ k. HasAll c.args.progress.now.tiling (plane_at c.args.progress.now k).tiles c.args.reading.place in
     subst Placed (sym c.from.ensures) (subst Reads (ap source c.in-Step.is) c.requires.there).2
 
 pub returns-else-not-has_frame-clause-bounded : goal.returns-else-not-has_frame-clause-bounded
 returns-else-not-has_frame-clause-bounded c =
-    window-bounded (image_of (value_at c.args.store.now.kept c.args.reading.image)) c.args.reading.place c.args.work.now.tiling.width c.args.work.now.tiling.height c.window.result (c.has_frame.ensures.frame c.if-not-has_frame.false) c.image_shape-picture.ensures.picture c.requires.within c.window.ensures.window
+    window-bounded (image_of (value_at c.args.store.now.kept c.args.reading.image)) c.args.reading.place c.args.progress.now.tiling.width c.args.progress.now.tiling.height c.window.result (c.has_frame.ensures.frame c.if-not-has_frame.false) c.image_shape-picture.ensures.picture c.requires.within c.window.ensures.window

@@ -11,16 +11,16 @@ use Rattle.mw_core_tasks.proofs.results.is_fit.Goals as goal
 
 pub returns-then-not-is_of_running-clause-all : goal.returns-then-not-is_of_running-clause-all
 returns-then-not-is_of_running-clause-all c = λ image found.
-    let is : c.is_of_running.result ≡ true = c.is_of_running.ensures.all (found-of-running image c.args.work.now c.args.done.now found) in
+    let is : c.is_of_running.result ≡ true = c.is_of_running.ensures.all (found-of-running image c.args.progress.now c.args.done.now found) in
     let not : c.is_of_running.result ≡ false = c.if-not-is_of_running.true in
     absurd (false≢true (sym not ∙ is))
 
 pub step-planned-requires : goal.step-planned-requires
-step-planned-requires c = (running-of c.args.work.now c.args.done.now c.task-id.result c.task-id.ensures (c.is_of_running.ensures.is c.if-not-is_of_running.false)).0
+step-planned-requires c = (running-of c.args.progress.now c.args.done.now c.task-id.result c.task-id.ensures (c.is_of_running.ensures.is c.if-not-is_of_running.false)).0
 
 pub has_first_level-requires : goal.has_first_level-requires
 has_first_level-requires c =
-    let u = c.args.work.now in
+    let u = c.args.progress.now in
     let d = c.args.done.now in
     let q = planned c.step-planned.result.now in
     let Step : TaskId → Type 0 = λ k. q ≡ get_or u.progress.plan k.step nothing_planned in
@@ -28,7 +28,7 @@ has_first_level-requires c =
 
 pub returns-clause-result : goal.returns-clause-result
 returns-clause-result c = λ holds.
-    let u = c.args.work.now in
+    let u = c.args.progress.now in
     let d = c.args.done.now in
     let q = planned c.step-planned.result.now in
     let Step : TaskId → Type 0 = λ k. q ≡ get_or u.progress.plan k.step nothing_planned in
@@ -37,7 +37,7 @@ returns-clause-result c = λ holds.
 
 pub returns-clause-all : goal.returns-clause-all
 returns-clause-all c = λ image found.
-    let u = c.args.work.now in
+    let u = c.args.progress.now in
     let d = c.args.done.now in
     let q = planned c.step-planned.result.now in
     let Step : TaskId → Type 0 = λ k. q ≡ get_or u.progress.plan k.step nothing_planned in

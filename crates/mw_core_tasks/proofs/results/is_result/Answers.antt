@@ -11,27 +11,27 @@ use Rattle.mw_core_tasks.proofs.results.is_result.Goals as goal
 
 pub returns-then-not-is_of_running-clause-all : goal.returns-then-not-is_of_running-clause-all
 returns-then-not-is_of_running-clause-all c = λ found.
-    let is : c.is_of_running.result ≡ true = c.is_of_running.ensures.all (found-of-running _ c.args.work.now c.args.done.now found) in
+    let is : c.is_of_running.result ≡ true = c.is_of_running.ensures.all (found-of-running _ c.args.progress.now c.args.done.now found) in
     let not : c.is_of_running.result ≡ false = c.if-not-is_of_running.true in
     absurd (false≢true (sym not ∙ is))
 
 pub step-planned-requires : goal.step-planned-requires
-step-planned-requires c = (running-of c.args.work.now c.args.done.now c.task-id.result c.task-id.ensures (c.is_of_running.ensures.is c.if-not-is_of_running.false)).0
+step-planned-requires c = (running-of c.args.progress.now c.args.done.now c.task-id.result c.task-id.ensures (c.is_of_running.ensures.is c.if-not-is_of_running.false)).0
 
 pub window-place-requires : goal.window-place-requires
 window-place-requires c =
-    let runs = running-of c.args.work.now c.args.done.now c.task-id.result c.task-id.ensures (c.is_of_running.ensures.is c.if-not-is_of_running.false) in
+    let runs = running-of c.args.progress.now c.args.done.now c.task-id.result c.task-id.ensures (c.is_of_running.ensures.is c.if-not-is_of_running.false) in
     let Inside : Tiling → Type 0 = λ g. c.task-id.result.tile < tile_count g in
     subst Inside (sym c.grid-grid.ensures) runs.1
 
 pub are_windows-requires-clause-some : goal.are_windows-requires-clause-some
 are_windows-requires-clause-some c =
-    let runs = running-of c.args.work.now c.args.done.now c.task-id.result c.task-id.ensures (c.is_of_running.ensures.is c.if-not-is_of_running.false) in
-    place-some c.args.work.now c.task-id.result.tile c.grid-grid.result c.reach.result c.window-place.result c.remaining-whole.ensures.whole runs.1 c.grid-grid.ensures c.window-place.ensures.value
+    let runs = running-of c.args.progress.now c.args.done.now c.task-id.result c.task-id.ensures (c.is_of_running.ensures.is c.if-not-is_of_running.false) in
+    place-some c.args.progress.now c.task-id.result.tile c.grid-grid.result c.reach.result c.window-place.result c.remaining-whole.ensures.whole runs.1 c.grid-grid.ensures c.window-place.ensures.value
 
 pub are_windows-requires-clause-there : goal.are_windows-requires-clause-there
 are_windows-requires-clause-there c =
-    let u = c.args.work.now in
+    let u = c.args.progress.now in
     let d = c.args.done.now in
     let q = planned c.step-planned.result.now in
     looked-up-there u d q c.window-place.result
@@ -40,7 +40,7 @@ are_windows-requires-clause-there c =
 
 pub returns-clause-result : goal.returns-clause-result
 returns-clause-result c = λ holds.
-    let u = c.args.work.now in
+    let u = c.args.progress.now in
     let d = c.args.done.now in
     let image = image_of (value_at c.args.store.now.kept c.args.image) in
     let q = planned c.step-planned.result.now in
@@ -51,7 +51,7 @@ returns-clause-result c = λ holds.
 
 pub returns-clause-all : goal.returns-clause-all
 returns-clause-all c = λ found.
-    let u = c.args.work.now in
+    let u = c.args.progress.now in
     let d = c.args.done.now in
     let image = image_of (value_at c.args.store.now.kept c.args.image) in
     let q = planned c.step-planned.result.now in

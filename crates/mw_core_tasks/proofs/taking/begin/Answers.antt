@@ -10,7 +10,7 @@ use Rattle.mw_core_tasks.proofs.taking.begin.Goals as goal
 
 pub returns-in_default-clause-taken : goal.returns-in_default-clause-taken
 returns-in_default-clause-taken c =
-    let u = c.args.work.now in
+    let u = c.args.progress.now in
     let at = c.task_at-step.ensures in
     let image = image_of (value_at c.args.store.now.kept c.args.image) in
     let counted : c.task_at-step.result.1 < length u.progress.tiles = omega (arith, at.tile, length-tiles u c.remaining-whole.ensures.whole) in
@@ -23,7 +23,7 @@ returns-in_default-clause-taken c =
 
 pub returns-clause-taken : goal.returns-clause-taken
 returns-clause-taken c =
-    let u = c.args.work.now in
+    let u = c.args.progress.now in
     let at = c.task_at-step.ensures in
     let image = image_of (value_at c.args.store.now.kept c.args.image) in
     let counted : c.task_at-step.result.1 < length u.progress.tiles = omega (arith, at.tile, length-tiles u c.remaining-whole.ensures.whole) in

@@ -1,5 +1,5 @@
 use Rattle.std.proofs.Common.{◌<◌, length, map, refl, sym, ap, ◌∙◌, subst, arith}
-use Rattle.mw_model.specs.declared.places.Rect.{Rect}
+use Rattle.mw_model.specs.declared.offsets.Rect.{Rect}
 use Rattle.mw_model.specs.Plans.{Planned}
 use Rattle.mw_model.specs.Tasks.{planned_of}
 use Rattle.mw_core_laws.specs.mw_core_progress.ProgressView.{number_of}
@@ -16,7 +16,7 @@ use Rattle.mw_core_tasks.proofs.taking.task.Goals as goal
 
 pub windows-requires-clause-there : goal.windows-requires-clause-there
 windows-requires-clause-there c =
-    let u = c.args.work.now in
+    let u = c.args.progress.now in
     let id = c.args.id in
     let whole = c.remaining-whole.ensures.whole in
     let n = number_of u.progress id.step id.tile in
@@ -30,11 +30,11 @@ windows-requires-clause-there c =
 
 pub windows-requires-clause-some : goal.windows-requires-clause-some
 windows-requires-clause-some c =
-    place-some c.args.work.now c.args.id.tile c.grid-grid.result c.reach.result c.window-place.result c.remaining-whole.ensures.whole c.requires.tile c.grid-grid.ensures c.window-place.ensures.value
+    place-some c.args.progress.now c.args.id.tile c.grid-grid.result c.reach.result c.window-place.result c.remaining-whole.ensures.whole c.requires.tile c.grid-grid.ensures c.window-place.ensures.value
 
 pub returns-in_default : goal.returns-in_default
 returns-in_default c = λ fs sources fits.
-    let u = c.args.work.now in
+    let u = c.args.progress.now in
     let id = c.args.id in
     let whole = c.remaining-whole.ensures.whole in
     let counted : id.tile < length u.progress.tiles = omega (arith, c.requires.tile, length-tiles u whole) in
@@ -47,7 +47,7 @@ returns-in_default c = λ fs sources fits.
 
 pub returns : goal.returns
 returns c =
-    let u = c.args.work.now in
+    let u = c.args.progress.now in
     let id = c.args.id in
     let whole = c.remaining-whole.ensures.whole in
     let counted : id.tile < length u.progress.tiles = omega (arith, c.requires.tile, length-tiles u whole) in

@@ -1,7 +1,7 @@
 use Rattle.std.proofs.Common.{◌+◌, ◌*◌, ◌++◌, ◌∷◌, [], true, false, length, length-append, ◌∙◌, ap, arith}
 use Rattle.std.proofs.Common.{Vec, Global}
 use Rattle.std.specs.Prelude.{vec_capacity}
-use Rattle.mw_model.specs.declared.places.Offset.{Offset}
+use Rattle.mw_model.specs.declared.offsets.Offset.{Offset}
 use Rattle.mw_element.proofs.Room.{row_room}
 use Rattle.mw_element.proofs.Rows.{row_part, row_set, row_unset, pixel_test}
 use Rattle.mw_element.proofs.bitmaps.push_row.Goals as goal

@@ -1,6 +1,6 @@
 use Rattle.std.proofs.Common.{◌≡◌, ◌+◌, ◌*◌, ◌-ℤ◌, ℕ, ap, ◌∙◌, arith}
 use Rattle.std.proofs.lemmas.Int.{ints}
-use Rattle.mw_model.specs.Places.{nonnegative}
+use Rattle.mw_model.specs.Rectangles.{nonnegative}
 use Rattle.mw_model.proofs.Nonnegative.{nonnegative_is}
 use Rattle.mw_element_runs.proofs.layout.start_of_run.Goals as goal
 

@@ -1,5 +1,5 @@
 use Rattle.std.proofs.Common.{◌-◌, get_or, pos, arith, ◌∙◌}
-use Rattle.mw_model.specs.declared.places.Offset.{Offset}
+use Rattle.mw_model.specs.declared.offsets.Offset.{Offset}
 use Rattle.mw_element_runs.specs.Runs.{follows, follows_back}
 use Rattle.mw_element_runs.proofs.Fewest.{pairs_onward, follows_is, one_more, none_more, either_follows}
 use Rattle.mw_element_runs.proofs.runs.is_shorter_turned.Goals as goal

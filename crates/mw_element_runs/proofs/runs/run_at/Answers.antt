@@ -1,6 +1,6 @@
 use Rattle.std.proofs.Common.{◌≡◌, ◌+◌, pos, ℤ, true, false, arith, refl, sym, ◌∙◌, to_z, of_z, w16}
 use Rattle.std.proofs.lemmas.Int.{ints}
-use Rattle.mw_model.specs.declared.places.Offset.{Offset}
+use Rattle.mw_model.specs.declared.offsets.Offset.{Offset}
 use Rattle.mw_element_runs.specs.Runs.{offset_at}
 use Rattle.mw_element_runs.proofs.Ahead.{run_many}
 use Rattle.mw_element_runs.proofs.RunLists.{run_more, offset_is}

@@ -1,5 +1,5 @@
 use Rattle.std.proofs.Common.{◌≡◌, ◌∙◌, ◌∷◌, [], List, length, subst, arith, inl, refl}
-use Rattle.mw_geodesic.specs.declared.places.Place.{Place}
+use Rattle.mw_geodesic.specs.declared.neighbours.Place.{Place}
 use Rattle.mw_geodesic.specs.Floods.{AllWait}
 use Rattle.mw_geodesic.proofs.Geodesic.{start}
 use Rattle.mw_geodesic.proofs.Raised.{flood_begins, taken_out, one_offered, all_offered, still_between, costs_no_more, flood_ended}

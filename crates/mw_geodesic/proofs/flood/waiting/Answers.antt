@@ -1,5 +1,5 @@
 use Rattle.std.proofs.Common.{arith, refl}
-use Rattle.mw_geodesic.specs.declared.places.Place.{Place}
+use Rattle.mw_geodesic.specs.declared.neighbours.Place.{Place}
 use Rattle.mw_geodesic.proofs.Raised.{told_on, told_row, told_rows, all_told, still_inside}
 use Rattle.mw_geodesic.proofs.flood.waiting.Goals as goal
 

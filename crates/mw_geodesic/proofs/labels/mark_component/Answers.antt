@@ -1,5 +1,5 @@
 use Rattle.std.proofs.Common.{◌≡◌, ◌∙◌, ◌+◌, ◌∷◌, ◌++◌, [], List, length, ap, subst, arith, inl, inr, refl}
-use Rattle.mw_geodesic.specs.declared.places.Place.{Place}
+use Rattle.mw_geodesic.specs.declared.neighbours.Place.{Place}
 use Rattle.mw_geodesic.specs.Labels.{label_at}
 use Rattle.mw_geodesic.proofs.Markings.{Marking, MarkingWaits, marking_begins, waits_begin, mark_taken_out, mark_one_offered, mark_all_offered, still_marking, still_there, marks_cost, marking_ended}
 use Rattle.mw_geodesic.proofs.labels.mark_component.Goals as goal

@@ -1,5 +1,5 @@
 use Rattle.std.proofs.Common.{◌≡◌, ◌≤◌}
-use Rattle.mw_geodesic.specs.Places.{IsPlace}
+use Rattle.mw_geodesic.specs.Neighbours.{IsPlace}
 use Rattle.mw_geodesic.specs.Labels.{label_at}
 use Rattle.mw_geodesic.proofs.Markings.{Marking, MarkingWaits, MarkingOthersWait, mark_cost}
 use Rattle.mw_geodesic.proofs.labels.mark_component.Given as goal

@@ -1,5 +1,5 @@
 use Rattle.std.proofs.Common.{◌≡◌, ◌+◌, ◌*◌, ℕ, suc, subst, arith}
-use Rattle.mw_geodesic.specs.Places.{IsPlace}
+use Rattle.mw_geodesic.specs.Neighbours.{IsPlace}
 use Rattle.mw_geodesic.proofs.Markings.{Scanned, scan_on, visited_few}
 use Rattle.mw_geodesic.proofs.labels.scan.Goals as goal
 

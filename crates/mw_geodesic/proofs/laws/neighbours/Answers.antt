@@ -1,4 +1,4 @@
-use Rattle.mw_geodesic.proofs.Neighbours.{four_symmetric, eight_symmetric}
+use Rattle.mw_geodesic.proofs.NeighbourLemmas.{four_symmetric, eight_symmetric}
 use Rattle.mw_geodesic.proofs.laws.neighbours.Goals as goal
 
 pub returns-clause-four : goal.returns-clause-four

@@ -1,7 +1,7 @@
 use Rattle.std.proofs.Common.{List, subst, arith, inl, inr}
 use Rattle.std.proofs.lemmas.List.{drop_all}
-use Rattle.mw_model.specs.declared.places.Offset.{Offset}
-use Rattle.mw_geodesic.specs.Places.{Covers}
+use Rattle.mw_model.specs.declared.offsets.Offset.{Offset}
+use Rattle.mw_geodesic.specs.Neighbours.{ElementCovers}
 use Rattle.mw_geodesic.proofs.Opposites.{one_way}
 use Rattle.mw_geodesic.proofs.Raised.{covers_first}
 use Rattle.mw_geodesic.proofs.symmetry.is_symmetric.Goals as goal
@@ -21,7 +21,7 @@ loop-i-preserved c = λ x y u v covers. elim (c.loop-i.invariant x y u v covers)
 pub returns-clause-symmetric : goal.returns-clause-symmetric
 returns-clause-symmetric c = λ same x y u v covers. elim (c.loop-i.invariant x y u v covers) [
   | inl back ↦ back
-  | inr rest ↦ absurd (subst (λ (t : List Offset). Covers t x y u v) (drop_all c.loop-i.i c.args.element.now (omega arith)) rest)
+  | inr rest ↦ absurd (subst (λ (t : List Offset). ElementCovers t x y u v) (drop_all c.loop-i.i c.args.element.now (omega arith)) rest)
 ]
 
 pub returns-then-not-leads_back-clause-one_way : goal.returns-then-not-leads_back-clause-one_way

@@ -1,7 +1,7 @@
 use Rattle.std.proofs.Common.{List, subst, arith, inl, inr}
 use Rattle.std.proofs.lemmas.List.{drop_all}
-use Rattle.mw_model.specs.declared.places.Offset.{Offset}
-use Rattle.mw_geodesic.specs.Places.{Covers}
+use Rattle.mw_model.specs.declared.offsets.Offset.{Offset}
+use Rattle.mw_geodesic.specs.Neighbours.{ElementCovers}
 use Rattle.mw_geodesic.proofs.Raised.{covers_at, covers_first}
 use Rattle.mw_geodesic.proofs.symmetry.leads_back.Goals as goal
 
@@ -20,4 +20,4 @@ returns-then-is_opposite-clause-back c =
 
 pub returns-clause-nowhere : goal.returns-clause-nowhere
 returns-clause-nowhere c =
-    λ none x y u v joins covers. absurd (subst (λ (t : List Offset). Covers t u v x y) (drop_all c.loop-i.i c.args.element.now (omega arith)) (c.loop-i.invariant x y u v joins covers))
+    λ none x y u v joins covers. absurd (subst (λ (t : List Offset). ElementCovers t u v x y) (drop_all c.loop-i.i c.args.element.now (omega arith)) (c.loop-i.invariant x y u v joins covers))

@@ -1,6 +1,6 @@
 use Rattle.std.proofs.Common.{ℕ, drop}
-use Rattle.mw_geodesic.specs.Places.{Joins, Covers}
+use Rattle.mw_geodesic.specs.Neighbours.{Joins, ElementCovers}
 use Rattle.mw_geodesic.proofs.symmetry.leads_back.Given as goal
 
 abbrev pub invariant-loop-i : goal.invariant-loop-i
-invariant-loop-i l = (x y u v : ℕ) → Joins l.b x y u v → Covers l.element u v x y → Covers (drop l.i l.element) u v x y
+invariant-loop-i l = (x y u v : ℕ) → Joins l.b x y u v → ElementCovers l.element u v x y → ElementCovers (drop l.i l.element) u v x y

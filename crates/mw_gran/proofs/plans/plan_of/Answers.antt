@@ -1,5 +1,5 @@
 use Rattle.std.proofs.Common.{List, subst, sym}
-use Rattle.mw_model.specs.declared.places.Offset.{Offset}
+use Rattle.mw_model.specs.declared.offsets.Offset.{Offset}
 use Rattle.mw_plan.specs.Asked.{offsets_of_input}
 use Rattle.mw_gran.specs.Sizes.{MakesGran}
 use Rattle.mw_gran.proofs.Meaning.{IsAllowed-gran, gran_plan, few_steps, few_steps_by_box, short_plan}

@@ -1,5 +1,5 @@
 use Rattle.std.proofs.Common.{◌≡◌, ◌+◌, ◌-◌, ◌*◌, List, length}
-use Rattle.mw_model.specs.declared.places.Offset.{Offset}
+use Rattle.mw_model.specs.declared.offsets.Offset.{Offset}
 use Rattle.mw_plan.specs.mw_step_task.Meanings.{meaning}
 use Rattle.mw_plan.specs.Seen.{source}
 use Rattle.mw_gran.specs.Turns.{Restores, Slides}

@@ -1,5 +1,5 @@
 use Rattle.std.proofs.Common.{Option, Some, None, IfSome}
-use Rattle.mw_model.specs.declared.places.OffsetBox.{OffsetBox}
+use Rattle.mw_model.specs.declared.offsets.OffsetBox.{OffsetBox}
 use Rattle.mw_model.specs.Laws.{HoldsOrigin}
 use Rattle.mw_plan.specs.mw_element.Figures.{FillsBox}
 use Rattle.mw_plan.specs.Steps.{IsNearBox}

@@ -1,5 +1,5 @@
 use Rattle.std.proofs.Common.{◌+◌, ap, ◌∙◌}
-use Rattle.mw_model.specs.declared.places.OffsetBox.{OffsetBox}
+use Rattle.mw_model.specs.declared.offsets.OffsetBox.{OffsetBox}
 use Rattle.mw_model.specs.PlanSteps.{ErodeBox, DilateBox}
 use Rattle.mw_plan.specs.Seen.{source}
 use Rattle.mw_gran.specs.Boxes.{multiplied}

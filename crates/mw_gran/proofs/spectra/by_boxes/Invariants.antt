@@ -1,6 +1,6 @@
 use Rattle.std.proofs.Common.{◌≡◌, ◌+◌, ◌*◌, List, length}
 use Rattle.mw_plan.specs.mw_element.Figures.{FillsBox}
-use Rattle.mw_model.specs.declared.places.Offset.{Offset}
+use Rattle.mw_model.specs.declared.offsets.Offset.{Offset}
 use Rattle.mw_model.specs.Iterates.{spectrum}
 use Rattle.mw_model.specs.Laws.{HoldsOrigin}
 use Rattle.mw_gran.specs.Turns.{Tells}

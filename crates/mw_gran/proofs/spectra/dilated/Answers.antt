@@ -4,7 +4,7 @@ use Rattle.mw_model.specs.Iterates.{times}
 use Rattle.mw_model.specs.Pictures.{IsPicture}
 use Rattle.mw_plan.specs.mw_step_task.Meanings.{meaning}
 use Rattle.mw_plan.specs.Seen.{source}
-use Rattle.mw_gran.specs.Growing.{Shows}
+use Rattle.mw_gran.specs.Growing.{ShowsOperator}
 use Rattle.mw_gran.specs.Turns.{Tells}
 use Rattle.mw_gran.proofs.OneMore.{with_step, pushed_count}
 use Rattle.mw_gran.proofs.Turns.{dilated_more, still_shown}
@@ -38,7 +38,7 @@ returns-clause-grown c = λ b count numbers before slides tells shows.
     let at = c.loop-done.invariant.grown b count numbers before slides tells shows in
     let same : c.loop-done._done ≡ c.args.n = omega arith in (
       subst (λ (k : ℕ). Tells c.loop-done.plan (count + k) numbers) same at.0,
-      subst (λ (k : ℕ). Shows IsPicture c.loop-done.plan (source c.loop-done.grown) (λ f. times k (dilation (reflected b)) (before f))) same at.1,
+      subst (λ (k : ℕ). ShowsOperator IsPicture c.loop-done.plan (source c.loop-done.grown) (λ f. times k (dilation (reflected b)) (before f))) same at.1,
     )
 
 pub returns-clause-count : goal.returns-clause-count

@@ -2,7 +2,7 @@ use Rattle.std.proofs.Common.{◌+◌, ◌*◌, subst}
 use Rattle.std.specs.Arc.{arc_value}
 use Rattle.std.proofs.lemmas.Result.{IfOk-weaker}
 use Rattle.mw_plan.specs.mw_element.Figures.{FillsBox}
-use Rattle.mw_model.specs.declared.places.OffsetBox.{OffsetBox}
+use Rattle.mw_model.specs.declared.offsets.OffsetBox.{OffsetBox}
 use Rattle.mw_model.specs.Elements.{Figure}
 use Rattle.mw_model.specs.Iterates.{spectrum}
 use Rattle.mw_model.specs.Laws.{HoldsOrigin}

@@ -1,6 +1,6 @@
 use Rattle.std.proofs.Common.{◌≡◌, ℕ, ◌+◌, ◌-◌, ◌*◌, List, take, drop, get_or, length, length-take, length-drop, ◌≤◌, refl, ap, arith, ◌∙◌}
 use Rattle.std.proofs.Math.Nat.{mul-le-mul_left}
-use Rattle.mw_model.specs.declared.places.Rect.{Rect}
+use Rattle.mw_model.specs.declared.offsets.Rect.{Rect}
 use Rattle.mw_line.proofs.HeldRows.{held_place}
 use Rattle.mw_line.proofs.Rows.{row_within}
 use Rattle.mw_line.proofs.spreading.held_rows.Goals as goal

@@ -3,7 +3,7 @@ use Rattle.std.specs.List.{AllByRecursion}
 use Rattle.mw_model.proofs.mw_facts.Alls.{all-weaker}
 use Rattle.mw_line.proofs.Folds.{IsExtremum}
 use Rattle.mw_element_runs.specs.declared.runs.Run.{Run}
-use Rattle.mw_element_runs.specs.Runs.{HasRoom}
+use Rattle.mw_element_runs.specs.Runs.{RunHasRoom}
 use Rattle.mw_offset.proofs.Rooms.{row_fits}
 use Rattle.mw_offset.proofs.Gathers.{gather_below, all_below, IsDoubled, grown_more, run_value, none_gathered, gathered_between}
 use Rattle.mw_offset.proofs.by_runs.combine_runs.Goals as goal
@@ -80,7 +80,7 @@ returns g c = λ n blank x y less row_less.
     elim c.sizes-test.branch [
       | then-sizes-test+else-sizes-cells w ↦
           let past : length cells < next = omega arith in
-          all-weaker (HasRoom laid.extent laid.wide count (length cells)) (λ (r : Run). r.count < next) runs (λ r room. let fits = room.room in omega arith) c.requires.room
+          all-weaker (RunHasRoom laid.extent laid.wide count (length cells)) (λ (r : Run). r.count < next) runs (λ r room. let fits = room.room in omega arith) c.requires.room
       | else-sizes-test w ↦
           let past : longest < next = omega arith in
           all-weaker (λ (r : Run). r.count ≤ longest) (λ (r : Run). r.count < next) runs (λ r le. omega arith) c.longest_of-longest.ensures.all

@@ -2,7 +2,7 @@ use Rattle.std.proofs.Common.{◌≡◌, ◌+◌, ◌-◌, ◌*◌, ◌≤◌, �
 use Rattle.std.specs.List.{AllByRecursion}
 use Rattle.std.proofs.lemmas.List.{nil_from_length}
 use Rattle.mw_line.proofs.Folds.{IsExtremum}
-use Rattle.mw_offset.specs.Places.{merge_from}
+use Rattle.mw_offset.specs.MergedAt.{merge_from}
 use Rattle.mw_offset.proofs.Parts.{all_places, places_are_parts}
 use Rattle.mw_offset.proofs.by_runs.combine_sized.Goals as goal
 

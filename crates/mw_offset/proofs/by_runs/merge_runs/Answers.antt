@@ -3,9 +3,9 @@ use Rattle.std.specs.List.{AllByRecursion}
 use Rattle.std.specs.Option.{unwrap_or}
 use Rattle.std.proofs.lemmas.Int.{ints}
 use Rattle.std.proofs.lemmas.Result.{on_ok_weaker}
-use Rattle.mw_model.specs.declared.places.Rect.{Rect}
+use Rattle.mw_model.specs.declared.offsets.Rect.{Rect}
 use Rattle.mw_line.proofs.Folds.{IsExtremum}
-use Rattle.mw_element_runs.specs.Runs.{HasRoom}
+use Rattle.mw_element_runs.specs.Runs.{RunHasRoom}
 use Rattle.mw_offset.proofs.Seens.{IsLaidBy, all_room, more_room, gather_spread}
 use Rattle.mw_offset.proofs.by_runs.merge_runs.Goals as goal
 
@@ -20,7 +20,7 @@ merge_laid-requires-clause-room g c =
     let count = (tile.height - 1) * wide + tile.width in
     let runs = c.args.runs.now in
     let size : high * wide + 63 ≡ length c.as_mut_slice.result.now = omega (arith, c.in_ok-cells.ensures.size) in
-    subst (λ (t : ℕ). AllByRecursion (HasRoom e wide (count + 63) t) runs) size
+    subst (λ (t : ℕ). AllByRecursion (RunHasRoom e wide (count + 63) t) runs) size
     (more_room e wide count (high * wide) 63 runs
     (all_room tile.width tile.height wide high count (high * wide) e runs c.requires.some.1 (ap (λ (t : ℕ). tile.width + t) across) (ap (λ (t : ℕ). tile.height + t) down) refl refl c.requires.inside))
 

@@ -1,6 +1,6 @@
 use Rattle.std.proofs.Common.{◌≡◌, ℕ, ◌≤◌, ◌*◌, length, flat_map, take}
 use Rattle.mw_element_runs.specs.declared.runs.Extent.{Extent}
-use Rattle.mw_offset.specs.Places.{places_of}
+use Rattle.mw_offset.specs.MergedAt.{places_of}
 use Rattle.mw_offset.proofs.by_runs.parts_of_sizes.Given as goal
 
 abbrev pub invariant-loop-i : goal.invariant-loop-i

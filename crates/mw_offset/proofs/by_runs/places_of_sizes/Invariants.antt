@@ -1,5 +1,5 @@
 use Rattle.std.proofs.Common.{◌≡◌, flat_map, take}
-use Rattle.mw_offset.specs.Places.{places_of}
+use Rattle.mw_offset.specs.MergedAt.{places_of}
 use Rattle.mw_offset.proofs.by_runs.places_of_sizes.Given as goal
 
 abbrev pub invariant-loop-i : goal.invariant-loop-i

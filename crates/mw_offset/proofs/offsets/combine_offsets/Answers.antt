@@ -1,6 +1,6 @@
 use Rattle.std.proofs.Common.{arith, pos, ◌+◌, ◌+ℤ◌, get_or}
 use Rattle.std.proofs.lemmas.List.{get_or_default}
-use Rattle.mw_model.specs.declared.places.Offset.{Offset}
+use Rattle.mw_model.specs.declared.offsets.Offset.{Offset}
 use Rattle.mw_model.specs.Windows.{seen_at}
 use Rattle.mw_offset.proofs.Merges.{fold_more_given}
 use Rattle.mw_offset.proofs.offsets.combine_offsets.Goals as goal

@@ -1,5 +1,5 @@
 use Rattle.std.proofs.Common.{List, ap, sym, subst, ◌∙◌}
-use Rattle.mw_model.specs.declared.places.Offset.{Offset}
+use Rattle.mw_model.specs.declared.offsets.Offset.{Offset}
 use Rattle.mw_model.specs.Elements.{Figure}
 use Rattle.mw_model.specs.Flat.{rank}
 use Rattle.mw_model.specs.PlanSteps as step

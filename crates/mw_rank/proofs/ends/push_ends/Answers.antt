@@ -1,5 +1,5 @@
 use Rattle.std.proofs.Common.{◌+◌, ◌*◌, ap, arith}
-use Rattle.mw_model.specs.declared.places.Rect.{Rect}
+use Rattle.mw_model.specs.declared.offsets.Rect.{Rect}
 use Rattle.mw_rank.proofs.Edges.{no_ends, one_end}
 use Rattle.mw_rank.proofs.ends.push_ends.Goals as goal
 

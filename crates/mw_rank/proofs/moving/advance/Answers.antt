@@ -1,11 +1,11 @@
 use Rattle.std.proofs.Common.{ℕ, ◌≡◌, ◌+◌, ◌++◌, ◌∙◌, arith, length-append, get_or, sym, subst, pos}
 use Rattle.std.proofs.lemmas.List.{get_or_default}
-use Rattle.mw_model.specs.declared.places.Offset.{Offset}
+use Rattle.mw_model.specs.declared.offsets.Offset.{Offset}
 use Rattle.mw_model.specs.Windows.{seen_at}
 use Rattle.mw_element_runs.specs.declared.runs.Run.{Run}
 use Rattle.mw_element_runs.specs.Runs.{start_offset}
 use Rattle.mw_rank.specs.Ranks.{levels_at}
-use Rattle.mw_rank.specs.Tallies.{Tallies, Holds}
+use Rattle.mw_rank.specs.Tallies.{Tallies, HistogramHolds}
 use Rattle.mw_rank.proofs.Counts.{tallies_same}
 use Rattle.mw_rank.proofs.Sights.{length-levels_at}
 use Rattle.mw_rank.proofs.Moves.{staying, levels-leaving, levels-entering, length-staying, more_within, tallies_from}
@@ -20,7 +20,7 @@ leave-requires-clause-held g c =
     let level = g.P.Pixel.level in
     let sight = seen_at c.args.window.now in
     let is : get_or runs i r ≡ r = sym (get_or_default runs i none r (omega arith)) in
-    subst (λ (b : Offset). Holds g.P.Pixel.top_level c.loop-run.histogram (levels_at level sight b c.args.x c.args.y)) (sym c.start_of-start.ensures) (record {
+    subst (λ (b : Offset). HistogramHolds g.P.Pixel.top_level c.loop-run.histogram (levels_at level sight b c.args.x c.args.y)) (sym c.start_of-start.ensures) (record {
       others = staying level sight runs i r c.args.x c.args.y;
       tallies = tallies_same g.P.Pixel.top_level _ _ _ (levels-leaving level sight runs i r c.args.x c.args.y (omega arith) is) c.loop-run.invariant;
       few = omega (

@@ -1,7 +1,7 @@
 use Rattle.std.proofs.Common.{ℕ, ℤ, ◌≡◌, ◌+◌, ◌*◌, ◌∙◌, List, get_or, ◌<◌, arith, ap, pos, to_z, of_z, w64}
 use lib.IntN.{nat_abs}
 use Rattle.std.proofs.lemmas.Int.{ints}
-use Rattle.mw_model.specs.declared.places.Rect.{Rect}
+use Rattle.mw_model.specs.declared.offsets.Rect.{Rect}
 use Rattle.mw_rank.proofs.Sights.{seen_inside}
 use Rattle.mw_rank.proofs.moving.level_in.Goals as goal
 

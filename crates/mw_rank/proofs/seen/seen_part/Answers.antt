@@ -1,6 +1,6 @@
 use Rattle.std.proofs.Common.{◌≡◌, ◌-◌, ◌+ℤ◌, ◌-ℤ◌, pos, ℤ, suc, ap, arith, sym, to_z, of_z, w64}
 use Rattle.std.proofs.lemmas.Int.{ints}
-use Rattle.mw_model.specs.declared.places.Rect.{Rect}
+use Rattle.mw_model.specs.declared.offsets.Rect.{Rect}
 use Rattle.mw_element_runs.specs.Runs.{start_offset}
 use Rattle.mw_rank.proofs.Parts.{part_seen, part_unseen, clamp_rises}
 use Rattle.mw_rank.proofs.seen.seen_part.Goals as goal

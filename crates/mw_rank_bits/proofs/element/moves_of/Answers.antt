@@ -1,8 +1,8 @@
 use Rattle.std.proofs.Common.{◌≡◌, ℕ, ◌+◌, ◌*◌, ◌<◌, ◌≤◌, ◌-ℤ◌, map, ap, subst, sym, arith, ◌∙◌}
 use Rattle.std.specs.List.{AllByRecursion}
 use Rattle.std.proofs.Math.Nat.{mul-le-mul_right}
-use Rattle.mw_model.specs.Places.{nonnegative}
-use Rattle.mw_bits.specs.mw_element_runs.Runs.{start_of, IsInside}
+use Rattle.mw_model.specs.Rectangles.{nonnegative}
+use Rattle.mw_bits.specs.mw_element_runs.Runs.{start_of, RunIsInside}
 use Rattle.mw_rank_bits.proofs.Around.{moves_are, all_mapped, start_below, near_few}
 use Rattle.mw_rank_bits.proofs.element.moves_of.Goals as goal
 
@@ -16,7 +16,7 @@ changes_of-requires c =
     let columns-is = c.columns_after-columns.ensures.value in
     let size : rows * (columns + 1) + (columns + 1) ≡ (rows + 1) * (columns + 1) = omega arith in
     let below : AllByRecursion (λ (s : ℕ). s < (rows + 1) * (columns + 1)) (map (start_of e (columns + 1)) c.args.runs.now) =
-    all_mapped (IsInside e) (λ (s : ℕ). s < (rows + 1) * (columns + 1)) (start_of e (columns + 1)) c.args.runs.now
+    all_mapped (RunIsInside e) (λ (s : ℕ). s < (rows + 1) * (columns + 1)) (start_of e (columns + 1)) c.args.runs.now
     (λ r inside. let lt = start_below e (columns + 1) rows columns r inside rows-is columns-is in omega (arith, lt, size)) c.requires.inside in
     let high : rows ≤ 1023 = omega (arith, few.0, rows-is) in
     let across : columns ≤ 1023 = omega (arith, few.1, columns-is) in

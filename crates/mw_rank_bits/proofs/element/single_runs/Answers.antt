@@ -1,7 +1,7 @@
 use Rattle.std.proofs.Common.{◌≡◌, ℤ, List, get_or, [], ◌∷◌, ◌++◌, map, take, pos, to_z, of_z, w16, ap, sym, arith, ◌∙◌}
 use Rattle.std.proofs.lemmas.Int.{ints}
 use Rattle.std.proofs.lemmas.List.{map_more, take_all}
-use Rattle.mw_model.specs.declared.places.Offset.{Offset}
+use Rattle.mw_model.specs.declared.offsets.Offset.{Offset}
 use Rattle.mw_bits.specs.mw_element_runs.declared.runs.Run.{Run}
 use Rattle.mw_rank_bits.specs.Elements.{single_run}
 use Rattle.mw_rank_bits.proofs.element.single_runs.Goals as goal

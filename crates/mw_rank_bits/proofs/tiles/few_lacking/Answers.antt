@@ -5,13 +5,13 @@ use Rattle.std.proofs.Math.Nat.{mul-le-mul_right}
 use Rattle.std.proofs.lemmas.Int.{ints}
 use Rattle.std.proofs.lemmas.List.{length-map}
 use Rattle.std.proofs.lemmas.Nat.{mul-le}
-use Rattle.mw_model.specs.Places.{nonnegative}
+use Rattle.mw_model.specs.Rectangles.{nonnegative}
 use Rattle.mw_model.specs.Windows.{seen_at}
-use Rattle.mw_model.specs.declared.places.Rect.{Rect}
+use Rattle.mw_model.specs.declared.offsets.Rect.{Rect}
 use Rattle.mw_bits.specs.mw_pixel_words.Packed.{bit_of}
-use Rattle.mw_bits.specs.mw_element_runs.Runs.{start_of, IsInside}
+use Rattle.mw_bits.specs.mw_element_runs.Runs.{start_of, RunIsInside}
 use Rattle.mw_rank_bits.specs.Elements.{lacks_under}
-use Rattle.mw_rank_bits.specs.Walks.{HasRoom}
+use Rattle.mw_rank_bits.specs.Walks.{WordsHaveRoom}
 use Rattle.mw_rank_bits.proofs.Around.{all_mapped, start_below, limit_room, rows_room, runs_lack, few_are, HasLacks}
 use Rattle.mw_rank_bits.proofs.tiles.few_lacking.Goals as goal
 
@@ -36,11 +36,11 @@ below_words-requires c =
     let limit = below * (64 * wide) + (columns + 1) in
     let all : AllByRecursion (λ (s : ℕ). s < limit) moves.seen.items =
     subst (AllByRecursion (λ (s : ℕ). s < limit)) (sym c.in_ok-moves.ensures.seen)
-    (all_mapped (IsInside e) (λ (s : ℕ). s < limit) (start_of e (64 * wide)) runs (λ r inside. start_below e (64 * wide) below columns r inside rows-is columns-is) c.requires.inside) in
+    (all_mapped (RunIsInside e) (λ (s : ℕ). s < limit) (start_of e (64 * wide)) runs (λ r inside. start_below e (64 * wide) below columns r inside rows-is columns-is) c.requires.inside) in
     let more = (below + 1) * (64 * wide) + (columns + 1) in
     let more-is : (nonnegative (e.bottom -ℤ e.top) + 1) * (64 * wide) + (nonnegative (e.right -ℤ e.left) + 1) ≡ more =
     ap (λ (t : ℕ). (t + 1) * (64 * wide) + (nonnegative (e.right -ℤ e.left) + 1)) (sym rows-is) ∙ ap (λ (t : ℕ). (below + 1) * (64 * wide) + (t + 1)) (sym columns-is) in
-    let next : (places : List ℕ) → AllByRecursion (λ (s : ℕ). s < more) places → (y : ℕ) → y + 1 < tile.height → HasRoom cells places (y * wide + (2 * pairs - 2)) =
+    let next : (places : List ℕ) → AllByRecursion (λ (s : ℕ). s < more) places → (y : ℕ) → y + 1 < tile.height → WordsHaveRoom cells places (y * wide + (2 * pairs - 2)) =
     λ places under y lt.
     limit_room cells places more (y * wide + (2 * pairs - 2)) (λ s less. rows_room s (below + 1) y high wide pairs columns (length cells) less refl some (omega arith) size) under in
     let high_few : tile.height ≤ 2147483648 = c.requires.small.1 in

@@ -1,7 +1,7 @@
 use Rattle.std.proofs.Common.{◌≡◌, ℕ, ◌+◌, [], ◌∷◌, pos, length, get_or, ap, sym, arith, ◌∙◌, append-nil}
 use Rattle.std.specs.Global.{Vec}
 use Rattle.std.proofs.lemmas.List.{get_or_default}
-use Rattle.mw_model.specs.declared.places.Offset.{Offset}
+use Rattle.mw_model.specs.declared.offsets.Offset.{Offset}
 use Rattle.mw_model.specs.Windows.{seen_at}
 use Rattle.mw_rank.specs.Tallies.{count_under}
 use Rattle.mw_rank_medians.proofs.Gathered.{offset_gathered, small_more}

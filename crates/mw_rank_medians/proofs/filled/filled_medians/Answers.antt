@@ -4,7 +4,7 @@ use Rattle.mw_rank.specs.Ranks.{HasRows}
 use Rattle.mw_rank.proofs.Rows.{has_rows_more}
 use Rattle.mw_rank_medians.specs.Columns.{block_below}
 use Rattle.mw_rank_medians.specs.Filled.{filled_rank, line_x, line_y}
-use Rattle.mw_rank_medians.specs.Numbered.{IsNumber}
+use Rattle.mw_rank_medians.specs.Numbered.{IsNthLevel}
 use Rattle.mw_rank_medians.proofs.Beyond.{lines_fit, median_filled}
 use Rattle.mw_rank_medians.proofs.Joined.{slice_gained}
 use Rattle.mw_rank_medians.proofs.Medians.{median_some}
@@ -36,7 +36,7 @@ loop-line-preserved g c =
           let within : i < length c.loop-line.medians = omega (arith, c.loop-line.invariant.whole) in
           median_filled level g.P.Pixel.TOP g.P.Pixel.top_level (seen_at c.args.window.now) c.args.first lines.down lines.x lines.y stride (lines.count + side - 1) side k i line _ c.in_ok-samples.samples.items c.in_ok-samples.ensures
           (omega (arith, some.0)) (omega (arith, some.0)) some.1
-          (subst (λ (l : List _). IsNumber (block_below level g.P.Pixel.TOP l (line * stride) stride side i) k (level (get_or c.medians_of_rows.new.out i g.P.Pixel.TOP))) c.as_slice.ensures.value (c.medians_of_rows.ensures.medians i within)))
+          (subst (λ (l : List _). IsNthLevel (block_below level g.P.Pixel.TOP l (line * stride) stride side i) k (level (get_or c.medians_of_rows.new.out i g.P.Pixel.TOP))) c.as_slice.ensures.value (c.medians_of_rows.ensures.medians i within)))
           c.in_ok-extend_from_slice.ensures.items)
           c.loop-line.invariant.rows;
     }

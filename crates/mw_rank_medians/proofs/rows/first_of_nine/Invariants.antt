@@ -1,5 +1,5 @@
 use Rattle.std.proofs.Common.{◌≡◌, ℕ, ◌+◌, ◌-◌, ◌<◌, ◌≤◌, length, get_or}
-use Rattle.mw_rank_medians.specs.Numbered.{lanes_of_three, AreThree, IsNumber}
+use Rattle.mw_rank_medians.specs.Numbered.{lanes_of_three, AreThree, IsNthLevel}
 use Rattle.mw_rank_medians.specs.Columns.{column_below, block_below}
 use Rattle.mw_rank_medians.proofs.rows.first_of_nine.Given as goal
 
@@ -8,7 +8,7 @@ invariant-by_vector g l = record {
   within : l.done ≤ length l.out;
   size : length l.out ≡ length l.initial.out;
   columns : (i : ℕ) → i < g.P.Vectored.WIDTH → AreThree (column_below g.P.Pixel.level g.P.Pixel.TOP l.sheet.samples.now l.sheet.from l.sheet.stride 3 (l.done + i)) (lanes_of_three g.P.Vectored.lane l.here i);
-  medians : (i : ℕ) → i < l.done → IsNumber (block_below g.P.Pixel.level g.P.Pixel.TOP l.sheet.samples.now l.sheet.from l.sheet.stride 3 i) 5 (g.P.Pixel.level (get_or l.out i g.P.Pixel.TOP));
+  medians : (i : ℕ) → i < l.done → IsNthLevel (block_below g.P.Pixel.level g.P.Pixel.TOP l.sheet.samples.now l.sheet.from l.sheet.stride 3 i) 5 (g.P.Pixel.level (get_or l.out i g.P.Pixel.TOP));
 }
 
 abbrev pub decreases-by_vector : goal.decreases-by_vector

@@ -1,5 +1,5 @@
 use Rattle.std.proofs.Common.{ℕ, ◌+◌, ◌*◌, ap, arith}
-use Rattle.mw_model.specs.declared.places.Rect.{Rect}
+use Rattle.mw_model.specs.declared.offsets.Rect.{Rect}
 use Rattle.mw_rank_medians.proofs.Squares.{square_shown}
 use Rattle.mw_rank_medians.proofs.square.square_in.Goals as goal
 

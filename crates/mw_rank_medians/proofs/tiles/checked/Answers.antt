@@ -1,10 +1,10 @@
 use Rattle.std.proofs.Common.{◌<◌, ◌∙◌, List, ap, sym, arith}
 use Rattle.mw_model.specs.PlanSteps.{ranked}
 use Rattle.mw_model.specs.Windows.{seen_at}
-use Rattle.mw_model.specs.declared.places.Offset.{Offset}
+use Rattle.mw_model.specs.declared.offsets.Offset.{Offset}
 use Rattle.mw_rank.specs.Ranks.{levels_under}
 use Rattle.mw_rank_medians.specs.Filled.{filled_rank}
-use Rattle.mw_rank_medians.specs.Squares.{rows_from}
+use Rattle.mw_rank_medians.specs.Squares.{offset_rows}
 use Rattle.mw_rank_medians.proofs.Beyond.{rank_filled}
 use Rattle.mw_rank_medians.proofs.tiles.checked.Goals as goal
 
@@ -18,5 +18,5 @@ returns-then-value g c =
     let is = c.requires.filled below in
     let low : filled_rank level top sight wanted.first wanted.side wanted.k c.args.x c.args.y < top = omega (arith, below, is) in
     is
-    ∙ rank_filled level top sight (rows_from wanted.first wanted.side wanted.side) c.args.x c.args.y wanted.k low
+    ∙ rank_filled level top sight (offset_rows wanted.first wanted.side wanted.side) c.args.x c.args.y wanted.k low
     ∙ ap (λ (l : List Offset). ranked wanted.k (levels_under level sight l c.args.x c.args.y)) (sym c.requires.square)

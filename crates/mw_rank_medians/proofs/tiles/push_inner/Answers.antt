@@ -1,10 +1,10 @@
 use Rattle.std.proofs.Common.{◌≡◌, ℕ, ◌+◌, ◌*◌, ◌∙◌, List, ap, arith, get_or, subst}
 use Rattle.mw_model.specs.PlanSteps.{ranked}
-use Rattle.mw_model.specs.declared.places.Rect.{Rect}
+use Rattle.mw_model.specs.declared.offsets.Rect.{Rect}
 use Rattle.mw_model.specs.Windows.{seen_at}
 use Rattle.mw_rank.specs.Ranks.{levels_under}
 use Rattle.mw_rank_medians.specs.Filled.{filled_rank}
-use Rattle.mw_rank_medians.specs.Squares.{rows_from, ShowsSquare}
+use Rattle.mw_rank_medians.specs.Squares.{offset_rows, ShowsSquare}
 use Rattle.mw_rank_medians.proofs.Joined.{medians_gained}
 use Rattle.mw_rank_medians.proofs.Medians.{median_is, median_some}
 use Rattle.mw_rank_medians.proofs.tiles.push_inner.Goals as goal
@@ -21,7 +21,7 @@ returns-in-Some-clause-medians g c =
     let count = wanted.inner.count in
     let x = wanted.tile.x + wanted.inner.first in
     let y = wanted.tile.y + c.args.row in
-    let square = rows_from wanted.first wanted.side wanted.side in
+    let square = offset_rows wanted.first wanted.side wanted.side in
     let shows = λ (a b : ℕ). ShowsSquare level top (seen_at w) w.cells square a b count c.in-Some.from w.place.width wanted.side in
     let shown = subst (λ (a : ℕ). shows a y) c.from.ensures (subst (λ (b : ℕ). shows c.from.result b) c.from-2.ensures c.in-Some.ensures) in
     medians_gained level top c.samples.result.now c.in-Some.from c.place.result.width wanted.side wanted.k count (λ i. ranked wanted.k (levels_under level (seen_at w) wanted.offsets.now (x + i) y)) c.args.out.now.items c.push_medians.new.out.items

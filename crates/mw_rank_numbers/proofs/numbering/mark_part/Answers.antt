@@ -1,12 +1,12 @@
 use Rattle.std.proofs.Common.{ℕ, ◌≡◌, arith, inl, inr, ap, ◌∙◌, subst}
 use Rattle.std.proofs.lemmas.Bool.{cases_lt}
 use Rattle.mw_rank_numbers.specs.LevelSets.{bit_in}
-use Rattle.mw_rank_numbers.specs.Numbers.{level_in}
+use Rattle.mw_rank_numbers.specs.Numbers.{level_in_part}
 use Rattle.mw_rank_numbers.proofs.numbering.mark_part.Goals as goal
 
 pub loop-j-preserved : goal.loop-j-preserved
 loop-j-preserved g c =
-    let level-in = level_in g.P.Pixel.level g.P.Pixel.TOP c.args.window.now c.args.part in
+    let level-in = level_in_part g.P.Pixel.level g.P.Pixel.TOP c.args.window.now c.args.part in
     let known = c.loop-j.invariant in
     let n = c.loop-j.j in
     record {

@@ -2,7 +2,7 @@ use Rattle.std.proofs.Common.{ℕ, ◌≡◌, ◌<◌, get_or, arith, inl, inr, 
 use Rattle.std.proofs.lemmas.Bool.{cases_lt}
 use Rattle.mw_rank.specs.Ranks.{GainsRow, HasRows}
 use Rattle.mw_rank_numbers.specs.LevelSets.{bit_in, below_in, IsBack, IsSummed}
-use Rattle.mw_rank_numbers.specs.Numbers.{level_in}
+use Rattle.mw_rank_numbers.specs.Numbers.{level_in_part}
 use Rattle.mw_rank_numbers.proofs.Backs.{rows_gained, rows_none}
 use Rattle.mw_rank_numbers.proofs.numbering.number_part.Goals as goal
 
@@ -19,7 +19,7 @@ push_numbers-requires-clause-marked g c = λ i lt.
 
 pub loop-j-preserved : goal.loop-j-preserved
 loop-j-preserved g c =
-    let level-in = level_in g.P.Pixel.level g.P.Pixel.TOP c.args.window.now c.args.part in
+    let level-in = level_in_part g.P.Pixel.level g.P.Pixel.TOP c.args.window.now c.args.part in
     let words = c.args.order.words.now in
     let known = c.loop-j.invariant in
     let n = c.loop-j.j in
@@ -42,7 +42,7 @@ loop-j-preserved g c =
 pub returns-clause-numbers : goal.returns-clause-numbers
 returns-clause-numbers g c =
     let all : c.loop-j.j ≡ c.args.part.height = omega arith in
-    subst (λ (m : ℕ). HasRows (λ (p : ℕ). p) (λ i k. below_in c.args.order.words.now (level_in g.P.Pixel.level g.P.Pixel.TOP c.args.window.now c.args.part i k)) c.args.part.width m c.loop-j.numbers.items) all c.loop-j.invariant.numbers
+    subst (λ (m : ℕ). HasRows (λ (p : ℕ). p) (λ i k. below_in c.args.order.words.now (level_in_part g.P.Pixel.level g.P.Pixel.TOP c.args.window.now c.args.part i k)) c.args.part.width m c.loop-j.numbers.items) all c.loop-j.invariant.numbers
 
 pub returns-clause-back : goal.returns-clause-back
 returns-clause-back g c = λ i j across down. c.loop-j.invariant.back i j across (omega arith)

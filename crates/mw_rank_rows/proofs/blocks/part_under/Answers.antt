@@ -1,6 +1,6 @@
 use Rattle.std.proofs.Common.{◌≡◌, pos, ◌+ℤ◌, ◌-ℤ◌, ap, arith, to_z, of_z, w16, w64}
 use Rattle.std.proofs.lemmas.Int.{ints}
-use Rattle.mw_model.specs.declared.places.Rect.{Rect}
+use Rattle.mw_model.specs.declared.offsets.Rect.{Rect}
 use Rattle.mw_rank_rows.proofs.NumberedBlocks.{shown_here}
 use Rattle.mw_rank_rows.proofs.blocks.part_under.Goals as goal
 

@@ -2,14 +2,14 @@ use Rattle.std.proofs.Common.{◌≡◌, ◌+◌, ◌-◌, ◌*◌, ◌≤◌, l
 use Rattle.mw_model.specs.PlanSteps.{ranked}
 use Rattle.mw_model.specs.Windows.{seen_at}
 use Rattle.mw_rank_counts.specs.mw_rank.Ranks.{levels_under, HasRows}
-use Rattle.mw_rank_rows.specs.Tables.{Holds}
+use Rattle.mw_rank_rows.specs.Tables.{LanesHold}
 use Rattle.mw_rank_rows.proofs.blocks.rank_eights.Given as goal
 
 abbrev pub invariant-loop-done : goal.invariant-loop-done
 invariant-loop-done g l = record {
   within : l.done ≤ l.place.height;
   whole : length l.made ≡ 8 * l.place.width;
-  empty : Holds l.levels (λ v j. 0) l.counts l.lanes;
+  empty : LanesHold l.levels (λ v j. 0) l.counts l.lanes;
   rows : HasRows g.P.Pixel.level (λ x y. ranked l.wanted.k (levels_under g.P.Pixel.level (seen_at l.window) l.wanted.offsets.now (l.place.x + x) (l.place.y + y))) l.place.width l.done l.out.items;
 }
 

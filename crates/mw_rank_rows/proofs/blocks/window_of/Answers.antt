@@ -1,5 +1,5 @@
 use Rattle.std.proofs.Common.{ap, arith}
-use Rattle.mw_model.specs.declared.places.Rect.{Rect}
+use Rattle.mw_model.specs.declared.offsets.Rect.{Rect}
 use Rattle.mw_rank_rows.proofs.blocks.window_of.Goals as goal
 
 pub overflow_add-place : goal.overflow_add-place

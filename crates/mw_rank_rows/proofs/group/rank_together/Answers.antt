@@ -3,10 +3,10 @@ use Rattle.std.proofs.lemmas.Int.{ints}
 use Rattle.std.proofs.lemmas.List.{take_rest}
 use Rattle.mw_model.specs.Windows.{seen_at}
 use Rattle.mw_model.specs.PlanSteps.{ranked}
-use Rattle.mw_model.specs.declared.places.Offset.{Offset}
-use Rattle.mw_model.specs.declared.places.Rect.{Rect}
+use Rattle.mw_model.specs.declared.offsets.Offset.{Offset}
+use Rattle.mw_model.specs.declared.offsets.Rect.{Rect}
 use Rattle.mw_rank_counts.specs.mw_rank.Ranks.{levels_under}
-use Rattle.mw_rank_rows.specs.Rectangles.{offsets_in}
+use Rattle.mw_rank_rows.specs.Rectangles.{offsets_of_rows}
 use Rattle.mw_rank_rows.specs.Tables.{HasFound}
 use Rattle.mw_rank_rows.proofs.Found.{found_ranked}
 use Rattle.mw_rank_rows.proofs.Rectangular.{column_below, seen_below, slides}
@@ -33,7 +33,7 @@ rank_rows-requires-clause-known g c =
     let s = c.shown_rows-shown.result in
     let marks = c.args.group.marks.now in
     let place = c.place-place in
-    let few : length (offsets_in t t.rows) < 65536 = omega (arith, ap length c.requires.rectangle.is, c.requires.few) in
+    let few : length (offsets_of_rows t t.rows) < 65536 = omega (arith, ap length c.requires.rectangle.is, c.requires.few) in
     let dx : to_z w16 (of_z w16 t.dx) ≡ t.dx = omega (arith, ints) in
     let top : to_z w64 (of_z w64 c.place_of-top.result) ≡ pos group.place.y +ℤ t.dy -ℤ pos w.place.y = omega (arith, ints, c.place_of-top.ensures.value, c.from-y.ensures, ap (λ (p : Rect). p.y) place.ensures.value) in
     let shows = group_shows g.P.Pixel.level g.P.Pixel.TOP w place.result t s (to_z w64 (of_z w64 c.place_of-top.result)) (to_z w16 (of_z w16 t.dx)) group.place.y (t.rows + 7) known.0 c.samples.result.now _ marks (take (length marks - s.skip) (drop s.skip marks)) c.sum_of_marks-all.result place.ensures.value
@@ -48,7 +48,7 @@ returns-clause-empty g c = λ levels under empty.
     let s = c.shown_rows-shown.result in
     let marks = c.args.group.marks.now in
     let place = c.place-place in
-    let few : length (offsets_in t t.rows) < 65536 = omega (arith, ap length c.requires.rectangle.is, c.requires.few) in
+    let few : length (offsets_of_rows t t.rows) < 65536 = omega (arith, ap length c.requires.rectangle.is, c.requires.few) in
     let dx : to_z w16 (of_z w16 t.dx) ≡ t.dx = omega (arith, ints) in
     let top : to_z w64 (of_z w64 c.place_of-top.result) ≡ pos group.place.y +ℤ t.dy -ℤ pos w.place.y = omega (arith, ints, c.place_of-top.ensures.value, c.from-y.ensures, ap (λ (p : Rect). p.y) place.ensures.value) in
     let shows = group_shows g.P.Pixel.level g.P.Pixel.TOP w place.result t s (to_z w64 (of_z w64 c.place_of-top.result)) (to_z w16 (of_z w16 t.dx)) group.place.y (t.rows + 7) levels c.samples.result.now _ marks (take (length marks - s.skip) (drop s.skip marks)) c.sum_of_marks-all.result place.ensures.value
@@ -65,7 +65,7 @@ returns-clause-found g c = λ whole r q e down lt.
     let s = c.shown_rows-shown.result in
     let marks = c.args.group.marks.now in
     let place = c.place-place in
-    let few : length (offsets_in t t.rows) < 65536 = omega (arith, ap length c.requires.rectangle.is, c.requires.few) in
+    let few : length (offsets_of_rows t t.rows) < 65536 = omega (arith, ap length c.requires.rectangle.is, c.requires.few) in
     let dx : to_z w16 (of_z w16 t.dx) ≡ t.dx = omega (arith, ints) in
     let top : to_z w64 (of_z w64 c.place_of-top.result) ≡ pos group.place.y +ℤ t.dy -ℤ pos w.place.y = omega (arith, ints, c.place_of-top.ensures.value, c.from-y.ensures, ap (λ (p : Rect). p.y) place.ensures.value) in
     let shows = group_shows g.P.Pixel.level g.P.Pixel.TOP w place.result t s (to_z w64 (of_z w64 c.place_of-top.result)) (to_z w16 (of_z w16 t.dx)) group.place.y (t.rows + 7) known.0 c.samples.result.now _ marks (take (length marks - s.skip) (drop s.skip marks)) c.sum_of_marks-all.result place.ensures.value

@@ -3,7 +3,7 @@ use Rattle.std.proofs.lemmas.List.{length-replicate}
 use Rattle.mw_model.specs.PlanSteps.{ranked}
 use Rattle.mw_model.specs.Windows.{seen_at}
 use Rattle.mw_rank_counts.specs.mw_rank.Ranks.{levels_under}
-use Rattle.mw_rank_rows.specs.Tables.{Holds}
+use Rattle.mw_rank_rows.specs.Tables.{LanesHold}
 use Rattle.mw_rank_rows.proofs.Found.{rows_more, no_rows}
 use Rattle.mw_rank_rows.proofs.rows.rank_groups.Goals as goal
 
@@ -14,7 +14,7 @@ loop-done-init g c =
     record {
       within = omega arith;
       whole = ap length made ∙ length-replicate (8 * c.args.tile.width) c.TOP.result;
-      empty = subst (λ (l : List ℕ). Holds c.args.levels (λ v j. 0) l c.no_samples-lanes.result) (sym counts) (c.no_samples-lanes.ensures c.args.levels (λ v j. 0) c.requires.level c.requires.short (λ v j lt. refl));
+      empty = subst (λ (l : List ℕ). LanesHold c.args.levels (λ v j. 0) l c.no_samples-lanes.result) (sym counts) (c.no_samples-lanes.ensures c.args.levels (λ v j. 0) c.requires.level c.requires.short (λ v j lt. refl));
       rows = no_rows g.P.Pixel.level _ c.args.tile.width c.in_ok-out.out.items c.in_ok-out.ensures.items;
     }
 

@@ -2,7 +2,7 @@ use Rattle.std.proofs.Common.{◌≡◌, ℕ, ◌*◌, ◌∙◌, ◌≤◌, Lis
 use Rattle.mw_model.proofs.mw_facts.Counts.{count_by-most}
 use Rattle.mw_model.proofs.mw_facts.Elements.{take-written}
 use Rattle.mw_grid.specs.Grids.{tile_count}
-use Rattle.mw_ready.specs.Boards.{no_need, reads}
+use Rattle.mw_ready.specs.Boards.{no_need, reads_by_needs}
 use Rattle.mw_ready.proofs.Numbers.{product_small}
 use Rattle.mw_ready.proofs.Raising.{readers_next}
 use Rattle.mw_ready.proofs.reads.first_readers.Goals as goal
@@ -18,7 +18,7 @@ raise_sources-requires-clause-fits c = λ u lt.
     omega (
       arith,
       c.loop-k.invariant.each u (omega (arith, c.loop-k.invariant.size)),
-      count_by-most (λ t. reads a.needs.now a.grid t u) (k * n),
+      count_by-most (λ t. reads_by_needs a.needs.now a.grid t u) (k * n),
       product_small k n (omega (arith, c.requires, c.loop-k-test.true)) few,
     )
 

@@ -1,7 +1,7 @@
 use Rattle.std.proofs.Common.{ℕ, ◌∙◌, ◌/◌, ◌%◌, ◌*◌, ◌+◌, ◌&&◌, sym, subst, arith}
 use Rattle.mw_grid.specs.Counts.{in_range}
 use Rattle.mw_grid.specs.Grids.{columns_of}
-use Rattle.mw_ready.specs.Counters.{Lowers, Waiting}
+use Rattle.mw_ready.specs.Counters.{AreWaiting, Lowers}
 use Rattle.mw_ready.proofs.Lowering.{row_waits, lowers_more, box_more}
 use Rattle.mw_ready.proofs.release.release_block.Goals as goal
 
@@ -10,7 +10,7 @@ release_row-requires-clause-waiting c =
     let b = c.args.block in
     let n = columns_of c.args.grid in
     let row = c.loop-row.row in
-    subst (λ (k : ℕ). Waiting (in_range (row * k + b.left) (row * k + b.right)) c.loop-row.queue) (sym c.columns-columns.ensures.value)
+    subst (λ (k : ℕ). AreWaiting (in_range (row * k + b.left) (row * k + b.right)) c.loop-row.queue) (sym c.columns-columns.ensures.value)
     (row_waits n b.top b.bottom b.left b.right row c.args.queue.now c.loop-row.queue (omega arith) c.requires.across c.loop-row.auto.row c.loop-row-test.true c.loop-row.invariant.same.started c.requires.waiting c.loop-row.invariant.lowers)
 
 pub loop-row-preserved : goal.loop-row-preserved

@@ -1,5 +1,5 @@
 use Rattle.std.proofs.Common.{arith, ap, ◌∙◌, List}
-use Rattle.mw_model.specs.declared.places.Offset.{Offset}
+use Rattle.mw_model.specs.declared.offsets.Offset.{Offset}
 use Rattle.mw_model.specs.Flat.{dilation, reflected}
 use Rattle.mw_reference.proofs.Iterates.{once_more, all_times}
 use Rattle.mw_reference.proofs.iterated.dilated_back_times.Goals as goal

@@ -36,7 +36,7 @@ loop-y-preserved g c =
           let row-is : row.cells ≡ take f.width (drop (c.loop-y.y * f.width) f.cells) = c.read.ensures.value f cut in
           more_rows g.P.RowBytes.bytes f c.loop-y.y row.width row.cells old now new within wide row-is (i.wrote f cut)
           (subst (λ (l : List ℕ). Appends now new l) (c.deref.ensures.value ∙ c.fill.ensures.value ∙ ap (λ (r : Raster _). g.P.RowBytes.bytes r.width r.cells) c.held.ensures) c.in_ok-send.ensures.wrote);
-      kept = c.in_ok-send.ensures.kept ∙ i.kept;
+      kept = c.in_ok-send.ensures.remembers.kept ∙ i.kept;
       width = c.read.ensures.width ∙ sym c.requires.width;
       height = c.read.ensures.height;
       text = omega (arith, i.text, c.fill.ensures.room);

@@ -1,5 +1,5 @@
 use Rattle.mw_model.specs.declared.shapes.Kind.TheVariants as kind
-use Rattle.mw_model.specs.Places.{box_offsets}
+use Rattle.mw_model.specs.Rectangles.{box_offsets}
 use Rattle.mw_step.proofs.Slid.{slid_extremum}
 use Rattle.mw_step.proofs.flat.slide_box.Goals as goal
 

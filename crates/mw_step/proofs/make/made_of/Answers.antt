@@ -1,7 +1,7 @@
 use Rattle.std.proofs.Common.{List, ap, sym, refl, subst, ◌∙◌}
 use Rattle.std.proofs.lemmas.Result.{IfOk-weaker}
 use Rattle.mw_model.specs.Elements.{Figure}
-use Rattle.mw_model.specs.declared.places.Offset.{Offset}
+use Rattle.mw_model.specs.declared.offsets.Offset.{Offset}
 use Rattle.mw_model.specs.PlanSteps as plan
 use Rattle.mw_model.specs.PlanSteps.{PlanStep}
 use Rattle.mw_step_task.specs.Meanings.{meaning}

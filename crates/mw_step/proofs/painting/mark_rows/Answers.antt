@@ -1,6 +1,6 @@
 use Rattle.std.proofs.Common.{◌≡◌, ℕ, ◌+◌, ◌-◌, ◌*◌, ◌<◌, length, take, drop, get_or, length-take, length-drop, ap, arith, ◌∙◌, sym}
 use Rattle.std.specs.Prelude.{◌==◌, if◌then◌else◌}
-use Rattle.mw_model.specs.declared.places.Rect.{Rect}
+use Rattle.mw_model.specs.declared.offsets.Rect.{Rect}
 use Rattle.mw_step_task.proofs.mw_pixel_words.Bits.{rows_fit}
 use Rattle.mw_step.proofs.Painted.{cells_part, cells_all}
 use Rattle.mw_step.proofs.painting.mark_rows.Goals as goal

@@ -1,6 +1,6 @@
 use Rattle.std.proofs.lemmas.Result.{IfOk-weaker}
 use Rattle.mw_model.specs.Windows.{seen_at}
-use Rattle.mw_model.specs.Places.{box_offsets}
+use Rattle.mw_model.specs.Rectangles.{box_offsets}
 use Rattle.mw_rank_bits.specs.mw_line.Extrema.{IsSlidingExtremum}
 use Rattle.mw_rank_bits.proofs.mw_line.Folds.{IsExtremum}
 use Rattle.mw_step.proofs.SameMembers.{box_slides}

@@ -1,6 +1,6 @@
 use Rattle.std.proofs.Common.{ℕ, ◌*◌, max, map, replicate, sym, refl, ap, arith, ◌∙◌}
 use Rattle.std.specs.Prelude.{nat_le, if◌then◌else◌}
-use Rattle.mw_model.specs.declared.places.Rect.{Rect}
+use Rattle.mw_model.specs.declared.offsets.Rect.{Rect}
 use Rattle.mw_model.specs.Rasters.{Raster}
 use Rattle.mw_step.proofs.Levels.{each_level, one_level, lower_level, with_itself}
 use Rattle.mw_step.proofs.thresholds.upper_of_set.Goals as goal

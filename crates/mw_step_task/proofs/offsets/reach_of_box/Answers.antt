@@ -1,6 +1,6 @@
 use Rattle.std.proofs.Common.{neg_ℤ, arith, sym, ◌∙◌}
 use Rattle.std.proofs.lemmas.Int.{ints}
-use Rattle.mw_model.specs.Places.{nonnegative}
+use Rattle.mw_model.specs.Rectangles.{nonnegative}
 use Rattle.mw_step_task.proofs.Boxes.{reach_of_none, reach_of_some, same_reach}
 use Rattle.mw_step_task.proofs.offsets.reach_of_box.Goals as goal
 

@@ -1,5 +1,5 @@
 use Rattle.std.proofs.Common.{◌+◌, ◌*◌, set, slice_get, arith, subst, sym}
-use Rattle.mw_tile_pieces.specs.Blocks.{IsRun}
+use Rattle.mw_tile_pieces.specs.Blocks.{CopiesRun}
 use Rattle.mw_tile_pieces.proofs.Laid.{sample_run}
 use Rattle.mw_tile_pieces.proofs.Pasted.{pasted_all_rows, pasted_down}
 use Rattle.mw_tile_pieces.proofs.levels.copy_column.Goals as goal
@@ -14,7 +14,7 @@ loop-y-preserved g c =
     let column = c.requires.column in
     let run = sample_run c.loop-y.out c.args.from.now (b.start + y * b.wide) (b.first + y * b.own) c.index-from-block.result (omega arith) (omega arith) c.index-from-block.is in
     pasted_down b y (slice_get c.args.out.now) (slice_get c.loop-y.out) next (slice_get c.args.from.now) c.requires.fits.across
-    (subst (λ n. IsRun (slice_get c.loop-y.out) next (slice_get c.args.from.now) (b.start + y * b.wide) (b.first + y * b.own) n) (sym column) run) c.loop-y.invariant
+    (subst (λ n. CopiesRun (slice_get c.loop-y.out) next (slice_get c.args.from.now) (b.start + y * b.wide) (b.first + y * b.own) n) (sym column) run) c.loop-y.invariant
 
 pub returns : goal.returns
 returns g c = pasted_all_rows c.args.block c.loop-y.y _ _ _ (omega arith) c.loop-y.invariant

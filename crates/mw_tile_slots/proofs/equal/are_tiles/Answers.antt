@@ -1,7 +1,7 @@
 use Rattle.std.proofs.Common.{◌≡◌, ◌<◌, length, List, sym, subst, arith, rules, ◌∙◌}
 use Rattle.std.specs.List.{AllByRecursion}
 use Rattle.mw_model.proofs.mw_facts.Alls.{all-take_whole}
-use Rattle.mw_model.specs.declared.places.Rect.{Rect}
+use Rattle.mw_model.specs.declared.offsets.Rect.{Rect}
 use Rattle.mw_tile_pieces.specs.Patches.{frame_value, Patch, ShowsIn}
 use Rattle.mw_tile_pieces.proofs.Patches.{all_next, each_plain, read_at, shown_plain}
 use Rattle.mw_tile_slots.specs.Tiles.{cells_of, HasAll}

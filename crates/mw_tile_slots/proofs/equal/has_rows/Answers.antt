@@ -1,5 +1,5 @@
 use Rattle.std.proofs.Common.{◌≡◌, refl, ap, arith, rules, ◌∙◌}
-use Rattle.mw_model.specs.declared.places.Rect.{Rect}
+use Rattle.mw_model.specs.declared.offsets.Rect.{Rect}
 use Rattle.mw_tile_pieces.specs.Patches.{frame_value, overlap_of}
 use Rattle.mw_tile_pieces.proofs.Patches.{above_end, above_none, above_run, run_shows}
 use Rattle.mw_tile_slots.specs.Tiles.{cells_of}

@@ -1,5 +1,5 @@
 use Rattle.std.proofs.Common.{◌≡◌, IsTrue, ap, sym, subst, arith, ◌∙◌}
-use Rattle.mw_model.specs.declared.places.Rect.{Rect}
+use Rattle.mw_model.specs.declared.offsets.Rect.{Rect}
 use Rattle.mw_model.specs.Rasters.{Raster}
 use Rattle.mw_tile_pieces.specs.mw_tile.Windows.{IsCut}
 use Rattle.mw_tile_pieces.specs.mw_tile.Cuts.{view_of}

@@ -1,12 +1,12 @@
 use Rattle.std.proofs.Common.{◌≡◌, ◌-◌, ap, sym, subst, arith, rules}
-use Rattle.mw_model.specs.declared.places.Rect.{Rect}
-use Rattle.mw_model.specs.Places.{Holds}
+use Rattle.mw_model.specs.declared.offsets.Rect.{Rect}
+use Rattle.mw_model.specs.Rectangles.{Holds}
 use Rattle.mw_model.specs.Rasters.{Raster}
 use Rattle.mw_grid.specs.Grids.{tile_at}
 use Rattle.mw_tile_pieces.specs.mw_tile.Windows.{IsCut}
 use Rattle.mw_tile_pieces.specs.mw_tile.Cuts.{view_of}
 use Rattle.mw_tile_pieces.proofs.Patches.{run_in}
-use Rattle.mw_tile_slots.specs.Tiles.{cells_of, ShowsTiles, StandsIn}
+use Rattle.mw_tile_slots.specs.Tiles.{cells_of, ShowsTiles, HasSidesOf}
 use Rattle.mw_tile_slots.proofs.Compared.{part_of, parts_same, parts_shown, PartOf}
 use Rattle.mw_tile_slots.proofs.equal.is_row.Goals as goal
 
@@ -21,8 +21,8 @@ same_run-requires g c =
     let place-is : c.rect-place.result ≡ tile_at c.args.grid i = c.rect-place.ensures.value in
     let here : Holds c.rect-place.result c.parts.at c.args.y = subst (λ (r : Rect). Holds r c.parts.at c.args.y) (sym place-is) holds in
     let tile-is = c.plane-tile.ensures in
-    let stands : StandsIn c.rect-place.result c.plane-tile.result.now
-    = subst (λ (r : Rect). StandsIn r c.plane-tile.result.now) (sym place-is) (subst (λ (t : Raster _). StandsIn (tile_at c.args.grid i) t) (sym tile-is) c.tile_of.ensures.stands) in
+    let stands : HasSidesOf c.rect-place.result c.plane-tile.result.now
+    = subst (λ (r : Rect). HasSidesOf r c.plane-tile.result.now) (sym place-is) (subst (λ (t : Raster _). HasSidesOf (tile_at c.args.grid i) t) (sym tile-is) c.tile_of.ensures.stands) in
     let us = ap (λ (q : Rect). q.x) c.place-stands.ensures in
     let vs = ap (λ (q : Rect). q.y) c.place-stands.ensures in
     let wide = ap (λ (f : Raster _). f.width) c.plane-own.ensures.value in
@@ -53,7 +53,7 @@ parts-preserved g c =
     let place-is : place ≡ tile_at c.args.grid i = c.rect-place.ensures.value in
     let tile-is = c.plane-tile.ensures in
     let here : Holds place c.parts.at c.args.y = subst (λ (r : Rect). Holds r c.parts.at c.args.y) (sym place-is) c.tile_number-i.ensures.holds in
-    let stands : StandsIn place t = subst (λ (r : Rect). StandsIn r t) (sym place-is) (subst (λ (u : Raster _). StandsIn (tile_at c.args.grid i) u) (sym tile-is) c.tile_of.ensures.stands) in
+    let stands : HasSidesOf place t = subst (λ (r : Rect). HasSidesOf r t) (sym place-is) (subst (λ (u : Raster _). HasSidesOf (tile_at c.args.grid i) u) (sym tile-is) c.tile_of.ensures.stands) in
     let b = here.right in
     let from = c.parts.invariant.from in
     let test = c.parts-test.true in
@@ -82,7 +82,7 @@ returns-then-not-same_run g c = λ f shows.
     let place-is : place ≡ tile_at c.args.grid i = c.rect-place.ensures.value in
     let tile-is = c.plane-tile.ensures in
     let here : Holds place c.parts.at c.args.y = subst (λ (r : Rect). Holds r c.parts.at c.args.y) (sym place-is) c.tile_number-i.ensures.holds in
-    let stands : StandsIn place t = subst (λ (r : Rect). StandsIn r t) (sym place-is) (subst (λ (u : Raster _). StandsIn (tile_at c.args.grid i) u) (sym tile-is) c.tile_of.ensures.stands) in
+    let stands : HasSidesOf place t = subst (λ (r : Rect). HasSidesOf r t) (sym place-is) (subst (λ (u : Raster _). HasSidesOf (tile_at c.args.grid i) u) (sym tile-is) c.tile_of.ensures.stands) in
     let b = here.right in
     let from = c.parts.invariant.from in
     let test = c.parts-test.true in

@@ -5,7 +5,7 @@ use Rattle.mw_grid.proofs.Tiles.{HasTiles}
 use Rattle.mw_tile_pieces.specs.mw_tile.Windows.{IsCut}
 use Rattle.mw_tile_pieces.specs.mw_tile.Cuts.{view_of}
 use Rattle.mw_tile_slots.specs.Rows.{HasFirstOfRow}
-use Rattle.mw_tile_slots.specs.Tiles.{cells_of, StandsIn}
+use Rattle.mw_tile_slots.specs.Tiles.{cells_of, HasSidesOf}
 use Rattle.mw_tile_slots.proofs.Numbers.{along_row, columns_fill}
 use Rattle.mw_tile_slots.proofs.ReadRows.{no_cells_yet, row_more}
 use Rattle.mw_tile_slots.proofs.rows.copy_row.Goals as goal
@@ -37,7 +37,7 @@ copy_run-requires-clause-across_other g c =
     let n = c.args.y / side * c.columns-columns.result + c.loop-column.column in
     let at = c.loop-column.column * side in
     let along = along_row c.args.grid c.args.y c.loop-column.column n at (c.args.y % side) side c.columns-columns.result has c.requires.down c.loop-column-test.true refl refl refl c.side-side.ensures.value c.columns-columns.ensures.value in
-    let stands : StandsIn (tile_at c.args.grid n) c.plane-tile.result.now = subst (StandsIn (tile_at c.args.grid n)) (sym c.plane-tile.ensures) c.tile_of.ensures.stands in
+    let stands : HasSidesOf (tile_at c.args.grid n) c.plane-tile.result.now = subst (HasSidesOf (tile_at c.args.grid n)) (sym c.plane-tile.ensures) c.tile_of.ensures.stands in
     omega (arith, along.width, stands.width, c.min.ensures, c.side-side.ensures.value, c.width-width.ensures.value)
 
 pub copy_run-requires-clause-down_other : goal.copy_run-requires-clause-down_other
@@ -47,7 +47,7 @@ copy_run-requires-clause-down_other g c =
     let n = c.args.y / side * c.columns-columns.result + c.loop-column.column in
     let at = c.loop-column.column * side in
     let along = along_row c.args.grid c.args.y c.loop-column.column n at (c.args.y % side) side c.columns-columns.result has c.requires.down c.loop-column-test.true refl refl refl c.side-side.ensures.value c.columns-columns.ensures.value in
-    let stands : StandsIn (tile_at c.args.grid n) c.plane-tile.result.now = subst (StandsIn (tile_at c.args.grid n)) (sym c.plane-tile.ensures) c.tile_of.ensures.stands in
+    let stands : HasSidesOf (tile_at c.args.grid n) c.plane-tile.result.now = subst (HasSidesOf (tile_at c.args.grid n)) (sym c.plane-tile.ensures) c.tile_of.ensures.stands in
     omega (arith, along.top, along.holds.top, along.holds.bottom, stands.height)
 
 pub loop-column-preserved : goal.loop-column-preserved
@@ -64,7 +64,7 @@ loop-column-preserved g c =
     let t = c.plane-tile.result.now in
     let place = tile_at grid n in
     let along = along_row grid y k n at (y % side) side c.columns-columns.result has c.requires.down c.loop-column-test.true refl refl refl c.side-side.ensures.value c.columns-columns.ensures.value in
-    let stands : StandsIn place t = subst (StandsIn place) (sym c.plane-tile.ensures) c.tile_of.ensures.stands in
+    let stands : HasSidesOf place t = subst (HasSidesOf place) (sym c.plane-tile.ensures) c.tile_of.ensures.stands in
     let begins : k * grid.side ≡ at = ap (λ (s : ℕ). k * s) (sym c.side-side.ensures.value) in
     let room : at + count ≤ grid.width = omega (arith, along.holds.right, along.left, along.width, c.min.ensures, c.width-width.ensures.value) in
     let here : min grid.width (k * grid.side) ≡ at = omega (arith, begins, room) in

@@ -30,7 +30,7 @@ returns-in-Ok-Bad-clause-ran g c = λ left.
     let told = rw c.in-Ok-Bad.field-0-is at c.in-Ok-Bad.ensures.ok in
     drains-ended g.D.Handler.Answer left c.args.intake.now.bytes c.requests.intake.bytes c.next.new.self c.args.kept.now c.requests.kept
     (g.W.Write.contents c.args.sink.now.inner) (g.W.Write.contents c.requests.sink.inner) (g.W.Write.contents c.end_within.new.sink.inner) c.in-Ok-Bad.code c.end_within.result
-    c.requests.invariant.0 (inl (is_front c.requests.intake.bytes (Fault c.in-Ok-Bad.code) told.0), fault_has_room c.requests.intake.bytes c.in-Ok-Bad.code told.0) c.end_within.ensures.wrote _ c.end_within.ensures.flag
+    c.requests.invariant.0 (inl (is_front c.requests.intake.bytes (Fault c.in-Ok-Bad.code) told.0), fault_has_room c.requests.intake.bytes c.in-Ok-Bad.code told.0) c.end_within.ensures.wrote _ c.end_within.ensures.remembers.flag
 
 pub returns-then-is_quit-clause-ran : goal.returns-then-is_quit-clause-ran
 returns-then-is_quit-clause-ran g c = λ left.
@@ -47,7 +47,7 @@ returns-in_err-answer-in-Ok-Request-clause-ran g c = λ left.
     let fault = c.in_err-answer-in-Ok-Request.field-0.0 in
     let found : front c.requests.intake.bytes ≡ Found (asked c.in-Ok-Request.request) c.next.new.self.bytes = rw c.in-Ok-Request.field-0-is at c.in-Ok-Request.ensures.ok in
     let asks : asked c.in-Ok-Request.request ≢ AskAlone ask.Quit = λ e. let t = c.if-is_quit.ensures.1 e in cc in
-    let is_write : fault ≡ Write = let e = c.in_err-answer-in-Ok-Request.ensures.flag.0 in cc in
+    let is_write : fault ≡ Write = let e = c.in_err-answer-in-Ok-Request.ensures.remembers.flag.0 in cc in
     let p = err_from_is_err_and c.from_residual.result c.from_residual.ensures.1 in
     rw (p.1, p.2)
     (drains-broken g.D.Handler.Answer left c.args.intake.now.bytes c.requests.intake.bytes c.next.new.self.bytes c.next.new.self c.args.kept.now c.requests.kept c.answer.new.kept
@@ -69,6 +69,6 @@ requests-preserved g c =
       progress-given g.D.Handler.Answer c.args.intake.now.bytes c.requests.intake.bytes c.next.new.self.bytes c.args.kept.now c.requests.kept c.answer.new.kept
           (g.W.Write.contents c.args.sink.now.inner) (g.W.Write.contents c.requests.sink.inner) (g.W.Write.contents c.answer.new.sink.inner) (asked c.in-Ok-Request.request) tt
           c.requests.invariant.0 found asks c.in_ok-answer-in-Ok-Request.ensures.answered,
-      c.in_ok-answer-in-Ok-Request.ensures.same ∙ c.requests.invariant.1,
+      c.in_ok-answer-in-Ok-Request.ensures.remembers.kept ∙ c.requests.invariant.1,
       inl (left c.requests.invariant.2).0,
     )

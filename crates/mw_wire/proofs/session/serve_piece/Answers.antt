@@ -16,7 +16,7 @@ returns-in-Err-clause-ran g c = λ left.
     let Less : List ℕ → Type 0 = λ l. c.feed.new.self.spare < length l in
     drains-no-room g.D.Handler.Answer left c.args.intake.now.bytes c.args.piece.now c.portions.intake c.feed.new.self c.portions.at c.portion-n.result c.args.kept.now c.portions.kept
     (g.W.Write.contents c.args.sink.now.inner) (g.W.Write.contents c.portions.sink.inner) (g.W.Write.contents c.end_within.new.sink.inner) c.end_within.result
-    c.in-Err.ensures.err i.progress i.waits some portion (subst Less fed c.in-Err.ensures.still) c.end_within.ensures.wrote _ c.end_within.ensures.flag
+    c.in-Err.ensures.err i.progress i.waits some portion (subst Less fed c.in-Err.ensures.still) c.end_within.ensures.wrote _ c.end_within.ensures.remembers.flag
 
 pub returns-in_err-end-clause-ran : goal.returns-in_err-end-clause-ran
 returns-in_err-end-clause-ran g c = λ left.
@@ -25,7 +25,7 @@ returns-in_err-end-clause-ran g c = λ left.
     let fault = c.in_err-end.field-0.0 in
     let fed : c.feed.new.self.bytes ≡ c.portions.intake.bytes ++ take c.portion-n.result (drop c.portions.at c.args.piece.now) = rw (c.split_at-in-portions.ensures.front, c.split_at.ensures.back) at c.in-Ok.ensures.ok in
     let h = progress-portion g.D.Handler.Answer c.args.intake.now.bytes c.args.piece.now c.portions.intake.bytes c.feed.new.self.bytes c.portions.at c.portion-n.result c.args.kept.now c.portions.kept x y fed c.portions.invariant.progress in
-    let is_write : fault ≡ Write = let e = c.in_err-end.ensures.flag.0 in cc in
+    let is_write : fault ≡ Write = let e = c.in_err-end.ensures.remembers.flag.0 in cc in
     let p = err_from_is_err_and c.from_residual.result c.from_residual.ensures.1 in
     rw (p.1, p.2)
     (drains-cut g.D.Handler.Answer left c.args.intake.now.bytes c.args.piece.now c.feed.new.self.bytes c.drain.new.intake (c.portions.at + c.portion-n.result) c.args.kept.now c.portions.kept c.drain.new.kept x y (g.W.Write.contents c.drain.new.sink.inner)
@@ -55,7 +55,7 @@ portions-preserved g c =
       progress = progress-drained g.D.Handler.Answer (c.args.intake.now.bytes ++ take (c.portions.at + c.portion-n.result) piece) c.feed.new.self.bytes c.drain.new.intake.bytes c.args.kept.now c.portions.kept c.drain.new.kept x y (g.W.Write.contents c.drain.new.sink.inner) h d;
       waits = c.in_ok-end.ensures.waits c.in_default.is;
       is_open = c.in_ok-end.ensures.is_open c.in_default.is;
-      same = c.in_ok-end.ensures.same ∙ i.same;
+      same = c.in_ok-end.ensures.remembers.kept ∙ i.same;
     }
 
 pub drain-requires-clause-tidy : goal.drain-requires-clause-tidy

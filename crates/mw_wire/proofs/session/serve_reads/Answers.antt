@@ -15,7 +15,7 @@ returns-in-Err-clause-ran g c =
     let kept = c.args.kept.now in
     let had = g.R.Read.remaining c.args.source.now.inner in
     let x = g.W.Write.contents c.args.sink.now.inner in
-    ran-ended g.D.Handler.Answer kept kept had had [] [] x x (g.W.Write.contents c.end_by.new.sink.inner) Memory c.end_by.result (Consumes-nil had) (progress-start g.D.Handler.Answer [] kept x) (inr (inr refl), λ e. inl refl) c.end_by.ensures.wrote _ c.end_by.ensures.flag
+    ran-ended g.D.Handler.Answer kept kept had had [] [] x x (g.W.Write.contents c.end_by.new.sink.inner) Memory c.end_by.result (Consumes-nil had) (progress-start g.D.Handler.Answer [] kept x) (inr (inr refl), λ e. inl refl) c.end_by.ensures.wrote _ c.end_by.ensures.remembers.flag
 
 pub reads-init : goal.reads-init
 reads-init g c =
@@ -27,9 +27,9 @@ reads-init g c =
       progress = let P : List ℕ → Type 0 = λ l. Progress g.D.Handler.Answer [] l kept kept x x in subst P (sym c.new-intake.ensures.bytes) (progress-start g.D.Handler.Answer [] kept x);
       waits = let P : List ℕ → Type 0 = λ l. front l ≡ Partial in subst P (sym c.new-intake.ensures.bytes) front_empty;
       is_open = inl c.new-intake.ensures.loose;
-      source_clear = c.requires.source_clear;
+      source_clear = c.requires.source_fresh.clear;
       sink_clear = c.requires.sink_clear;
-      reads = omega (arith, c.requires.unread);
+      reads = omega (arith, c.requires.source_fresh.none);
       buffer = c.in-Ok.ensures.len;
     }
 
@@ -50,10 +50,16 @@ returns-then-n-eq0-clause-ran g c =
     let zero : c.in_ok-n.n ≡ 0 = omega (arith, c.if-n-eq0.true) in
     ran-to-end g.D.Handler.Answer c.args.kept.now c.reads.kept (g.R.Read.remaining c.args.source.now.inner) (g.R.Read.remaining c.reads.source.inner) (g.R.Read.remaining c.receive.new.source.inner) i.taken c.reads.intake.bytes
     (g.W.Write.contents c.args.sink.now.inner) (g.W.Write.contents c.pass_on.new.sink.inner) (g.W.Write.contents c.end_of_input.new.sink.inner) c.end_of_input.result i.read (rw zero at c.in_ok-n.ensures.ok) (c.in_ok-n.ensures.end zero)
-    now i.waits c.end_of_input.ensures.quit c.end_of_input.ensures.cut _ c.end_of_input.ensures.flag
+    now i.waits c.end_of_input.ensures.quit c.end_of_input.ensures.cut _ c.end_of_input.ensures.remembers.flag
 
-pub returns-then-n-eq0-clause-writer_failed : goal.returns-then-n-eq0-clause-writer_failed
-returns-then-n-eq0-clause-writer_failed g c = write-failed c.end_of_input.result c.end_of_input.new.sink.failed c.pass_on.new.sink.failed (c.in_ok-pass_on.ensures.kept ∙ c.reads.invariant.sink_clear) c.end_of_input.ensures.same c.end_of_input.ensures.flag
+pub returns-then-n-eq0-clause-failures : goal.returns-then-n-eq0-clause-failures
+returns-then-n-eq0-clause-failures g c = record {
+  few_reads = search rules;
+  read_fault = search rules;
+  write_fault = search rules;
+  reader_failed = search rules;
+  writer_failed = write-failed c.end_of_input.result c.end_of_input.new.sink.failed c.pass_on.new.sink.failed (c.in_ok-pass_on.ensures.remembers.kept ∙ c.reads.invariant.sink_clear) c.end_of_input.ensures.remembers.kept c.end_of_input.ensures.remembers.flag;
+}
 
 pub returns-in_err-end-clause-ran : goal.returns-in_err-end-clause-ran
 returns-in_err-end-clause-ran g c =
@@ -104,7 +110,7 @@ reads-preserved g c =
       waits = c.in_ok-end.ensures.waits c.in_default.is;
       is_open = c.in_ok-end.ensures.is_open c.in_default.is;
       source_clear = c.in_ok-n.ensures.kept ∙ i.source_clear;
-      sink_clear = c.in_ok-end.ensures.same ∙ c.in_ok-pass_on.ensures.kept ∙ i.sink_clear;
+      sink_clear = c.in_ok-end.ensures.remembers.kept ∙ c.in_ok-pass_on.ensures.remembers.kept ∙ i.sink_clear;
       reads = c.receive.ensures.few_reads;
       buffer = i.buffer;
     }
@@ -122,7 +128,7 @@ returns-in_err-pass_on-clause-ran g c =
     let p = err_from_is_err_and c.from_residual.result c.from_residual.ensures.1 in
     rw (p.1, p.2)
     (ran-held g.D.Handler.Answer c.args.kept.now c.reads.kept (g.R.Read.remaining c.args.source.now.inner) (g.R.Read.remaining c.reads.source.inner) i.taken c.reads.intake.bytes
-    (g.W.Write.contents c.args.sink.now.inner) (g.W.Write.contents c.reads.sink.inner) (g.W.Write.contents c.pass_on.new.sink.inner) _ i.read i.progress i.waits c.pass_on.ensures.same_bytes (error-is _ _ refl c.in_err-pass_on.ensures.flag.0))
+    (g.W.Write.contents c.args.sink.now.inner) (g.W.Write.contents c.reads.sink.inner) (g.W.Write.contents c.pass_on.new.sink.inner) _ i.read i.progress i.waits c.pass_on.ensures.same_bytes (error-is _ _ refl c.in_err-pass_on.ensures.remembers.flag.0))
 
 pub returns-in_err-pass_on-2-clause-ran : goal.returns-in_err-pass_on-2-clause-ran
 returns-in_err-pass_on-2-clause-ran g c =
@@ -130,4 +136,58 @@ returns-in_err-pass_on-2-clause-ran g c =
     let p = err_from_is_err_and c.from_residual-in_err-pass_on-2.result c.from_residual-in_err-pass_on-2.ensures.1 in
     rw (p.1, p.2)
     (ran-held g.D.Handler.Answer c.args.kept.now c.reads.kept (g.R.Read.remaining c.args.source.now.inner) (g.R.Read.remaining c.reads.source.inner) i.taken c.reads.intake.bytes
-    (g.W.Write.contents c.args.sink.now.inner) (g.W.Write.contents c.reads.sink.inner) (g.W.Write.contents c.pass_on-2.new.sink.inner) _ i.read i.progress i.waits c.pass_on-2.ensures.same_bytes (error-is _ _ refl c.in_err-pass_on-2.ensures.flag.0))
+    (g.W.Write.contents c.args.sink.now.inner) (g.W.Write.contents c.reads.sink.inner) (g.W.Write.contents c.pass_on-2.new.sink.inner) _ i.read i.progress i.waits c.pass_on-2.ensures.same_bytes (error-is _ _ refl c.in_err-pass_on-2.ensures.remembers.flag.0))
+
+pub returns-in_err-pass_on-clause-failures : goal.returns-in_err-pass_on-clause-failures
+returns-in_err-pass_on-clause-failures g c = record {
+  few_reads = search rules;
+  read_fault = search rules;
+  write_fault = search rules;
+  reader_failed = search rules;
+  writer_failed = λ t. let p = err_from_is_err_and c.from_residual.result c.from_residual.ensures.1 in let q = error-is c.in_err-pass_on.field-0.0 _ refl c.in_err-pass_on.ensures.remembers.flag.0 in rw (p.1, p.2, q) refl;
+}
+
+pub returns-in_err-n-clause-failures : goal.returns-in_err-n-clause-failures
+returns-in_err-n-clause-failures g c = record {
+  few_reads = search rules;
+  read_fault = search rules;
+  write_fault = search rules;
+  reader_failed = search rules;
+  writer_failed = search rules;
+}
+
+pub returns-in_err-end-clause-failures : goal.returns-in_err-end-clause-failures
+returns-in_err-end-clause-failures g c = record {
+  few_reads = search rules;
+  read_fault = search rules;
+  write_fault = search rules;
+  reader_failed = search rules;
+  writer_failed = search rules;
+}
+
+pub returns-in-Some-clause-failures : goal.returns-in-Some-clause-failures
+returns-in-Some-clause-failures g c = record {
+  few_reads = search rules;
+  read_fault = search rules;
+  write_fault = search rules;
+  reader_failed = search rules;
+  writer_failed = search rules;
+}
+
+pub returns-in_err-pass_on-2-clause-failures : goal.returns-in_err-pass_on-2-clause-failures
+returns-in_err-pass_on-2-clause-failures g c = record {
+  few_reads = search rules;
+  read_fault = search rules;
+  write_fault = search rules;
+  reader_failed = search rules;
+  writer_failed = λ t. let p = err_from_is_err_and c.from_residual-in_err-pass_on-2.result c.from_residual-in_err-pass_on-2.ensures.1 in let q = error-is c.in_err-pass_on-2.field-0.0 _ refl c.in_err-pass_on-2.ensures.remembers.flag.0 in rw (p.1, p.2, q) refl;
+}
+
+pub returns-clause-failures : goal.returns-clause-failures
+returns-clause-failures g c = record {
+  few_reads = search rules;
+  read_fault = search rules;
+  write_fault = search rules;
+  reader_failed = search rules;
+  writer_failed = search rules;
+}

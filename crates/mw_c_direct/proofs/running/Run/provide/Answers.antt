@@ -2,7 +2,7 @@ use Rattle.std.proofs.Common.{◌≡◌, ◌<◌, false, Bool, List, arith, subs
 use Rattle.std.specs.Prelude.{slice_index_or}
 use Rattle.std.specs.List.{AllByRecursion}
 use Rattle.mw_model.specs.Tasks.{flag, nothing_planned}
-use Rattle.mw_c_direct.specs.Kept.{IsMade}
+use Rattle.mw_c_direct.specs.Kept.{SourceIsMade}
 use Rattle.mw_c_direct.proofs.Steps.{left, one_less}
 use Rattle.mw_c_direct.proofs.running.Run.provide.Goals as goal
 
@@ -18,4 +18,4 @@ steps-smaller c =
 
 pub returns-clause-sources : goal.returns-clause-sources
 returns-clause-sources c =
-    subst (λ (flags : List Bool). AllByRecursion (IsMade flags) (slice_index_or c.args.plan.now c.args.k nothing_planned).sources) c.deref.ensures.value c.in_default.ensures.none
+    subst (λ (flags : List Bool). AllByRecursion (SourceIsMade flags) (slice_index_or c.args.plan.now c.args.k nothing_planned).sources) c.deref.ensures.value c.in_default.ensures.none

@@ -22,7 +22,7 @@ add_last-requires-clause-count c =
 
 pub invariant_of-self-in-Ok : goal.invariant_of-self-in-Ok
 invariant_of-self-in-Ok c =
-    c.add_last.ensures c.self.inside.ledger c.self.inside.counts c.args.call c.args.name c.args.entry c.args.work c.accept.new.self.room c.sound.ensures c.self.invariant c.in_ok-grow.ensures c.in-Ok.ensures.ok
+    c.add_last.ensures c.self.inside.ledger c.self.inside.counts c.args.call c.args.name c.args.entry c.args.progress c.accept.new.self.room c.sound.ensures c.self.invariant c.in_ok-grow.ensures c.in-Ok.ensures.ok
 
 pub returns-in-Ok-clause-table : goal.returns-in-Ok-clause-table
 returns-in-Ok-clause-table c = ap (λ (b : Book). b.table) c.in-Ok.ensures.ok ∙ ap (λ (d : CoreView). with_entry d.table c.args.name (submission_of c.args.entry) (outcome_of c.args.entry)) c.self.view_is
@@ -33,8 +33,8 @@ returns-in-Ok-clause-kept c = ap (λ (b : Book). b.kept) c.in-Ok.ensures.ok ∙ 
 pub returns-in-Ok-clause-work : goal.returns-in-Ok-clause-work
 returns-in-Ok-clause-work c =
     ap (λ (b : Book). map (option_map progress_of) b.works) c.in-Ok.ensures.ok
-    ∙ map-append (option_map progress_of) c.self.inside.ledger.works (c.args.work ∷ [])
-    ∙ ap (λ (d : CoreView). d.work ++ option_map progress_of c.args.work ∷ []) c.self.view_is
+    ∙ map-append (option_map progress_of) c.self.inside.ledger.works (c.args.progress ∷ [])
+    ∙ ap (λ (d : CoreView). d.work ++ option_map progress_of c.args.progress ∷ []) c.self.view_is
 
 pub returns-in-Ok-clause-log : goal.returns-in-Ok-clause-log
 returns-in-Ok-clause-log c = ap (λ (b : Book). b.log) c.in-Ok.ensures.ok ∙ ap (λ (d : CoreView). d.log ++ item.Call c.args.call (reply.Accepted (length d.table.names)) ∷ []) c.self.view_is

@@ -3,7 +3,7 @@ use Rattle.mw_model.specs.Machine.{Machine}
 use Rattle.mw_model.specs.Stands.{CoreView, StandsFor}
 use Rattle.mw_core_ledger.specs.mw_core_laws.TaskEvents.{IsOpen, IsResult}
 use Rattle.mw_core_ledger.specs.Books.{seen_of}
-use Rattle.mw_core.specs.TaskAnswers.{Finishes, IsOwn}
+use Rattle.mw_core.specs.TaskAnswers.{AnswersFinish, IsOwn}
 use Rattle.mw_core.proofs.FinishLemmas.{found-at, own-true, taken-finishes}
 use Rattle.mw_core.proofs.machine.Core.finish_own.Goals as goal
 
@@ -13,7 +13,7 @@ returns-in-Ok-clause-task c =
     let new = c.take_result.new.ledger in
     let d = c.args.done in
     let told = c.take_result.ensures.taken in
-    let Taken : CoreView → Type 0 = λ x. (m : Machine) → StandsFor x m → IsOwn x m d → Finishes x m d c.take_result.result (seen_of new) in
+    let Taken : CoreView → Type 0 = λ x. (m : Machine) → StandsFor x m → IsOwn x m d → AnswersFinish x m d c.take_result.result (seen_of new) in
     subst Taken c.self.view_is (λ m s own. taken-finishes b new m d c.take_result.result s c.sound.ensures told (own-true b m d own))
 
 pub returns-clause-task : goal.returns-clause-task

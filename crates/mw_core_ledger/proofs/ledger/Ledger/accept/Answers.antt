@@ -3,8 +3,8 @@ use Rattle.mw_model.proofs.mw_facts.Numbers.{one_if-le}
 use Rattle.mw_model.specs.Refusals.{Table, is_pending}
 use Rattle.mw_core_tasks.specs.mw_core_progress.ProgressView.{ProgressView}
 use Rattle.mw_core_tasks.specs.mw_store.Entries.{submission_of, outcome_of}
-use Rattle.mw_core_tasks.specs.mw_store.Places.{HasRow}
-use Rattle.mw_core_tasks.specs.mw_store.Stored.{IsWhole, Stored}
+use Rattle.mw_core_tasks.specs.mw_store.RowRoom.{HasRow}
+use Rattle.mw_core_tasks.specs.mw_store.Stored.{StoreIsWhole, Stored}
 use Rattle.mw_core_tasks.proofs.mw_store.CascadeLemmas.{count-push}
 use Rattle.mw_core_ledger.specs.Books.{Book, IsOrderly, room_in}
 use Rattle.mw_core_ledger.proofs.OrderLemmas.{CanJoin, alike-orderly, joined-orderly, planned-pends}
@@ -13,18 +13,18 @@ use Rattle.mw_core_ledger.proofs.ledger.Ledger.accept.Goals as goal
 pub invariant_of-self-2 : goal.invariant_of-self-2
 invariant_of-self-2 c =
     let e = submission_of c.args.entry in
-    let Joins : Book → Type 0 = λ b. CanJoin b e c.args.work in
-    let can : CanJoin c.args.self.now e c.args.work = record { below = c.requires.below; fits = c.requires.fits; planned = c.requires.planned; left = c.requires.left; most = c.requires.most } in
+    let Joins : Book → Type 0 = λ b. CanJoin b e c.args.progress in
+    let can : CanJoin c.args.self.now e c.args.progress = record { below = c.requires.below; fits = c.requires.fits; planned = c.requires.planned; left = c.requires.left; most = c.requires.most } in
     let book : Book
     = record { table = c.self.inside.store.table; kept = c.self.inside.store.kept; works = c.self.inside.works.items; log = c.self.inside.log.items; side = c.self.inside.side; room = room_in c.self.inside.log.cap c.self.inside.log.len c.self.inside.store.table.outcomes } in
     let room = room_in c.push_reserved-2.new.self.cap c.push_reserved-2.new.self.len c.add.new.self.table.outcomes in
     let table = c.in_ok-t.ensures.table in
-    let Whole : Table → Type 0 = λ w. IsWhole (record { table = w; kept = c.add.new.self.kept }) in
+    let Whole : Table → Type 0 = λ w. StoreIsWhole (record { table = w; kept = c.add.new.self.kept }) in
     let whole = subst Whole table c.pending-whole.ensures.whole in
-    let order = joined-orderly book c.args.name e (outcome_of c.args.entry) c.add.new.self.kept c.args.work c.push_reserved-2.new.self.items room c.self.invariant.1 (subst Joins (sym c.self.view_is) can) (planned-pends c.args.self.now.table c.args.entry c.args.work c.requires.planned) whole in
-    let Tabled : Table → Type 0 = λ w. IsOrderly (record { table = w; kept = c.add.new.self.kept; works = book.works ++ c.args.work ∷ []; log = c.push_reserved-2.new.self.items; side = book.side; room = room }) in
+    let order = joined-orderly book c.args.name e (outcome_of c.args.entry) c.add.new.self.kept c.args.progress c.push_reserved-2.new.self.items room c.self.invariant.1 (subst Joins (sym c.self.view_is) can) (planned-pends c.args.self.now.table c.args.entry c.args.progress c.requires.planned) whole in
+    let Tabled : Table → Type 0 = λ w. IsOrderly (record { table = w; kept = c.add.new.self.kept; works = book.works ++ c.args.progress ∷ []; log = c.push_reserved-2.new.self.items; side = book.side; room = room }) in
     let Worked : List (Option ProgressView) → Type 0 = λ ws. IsOrderly (record { table = c.add.new.self.table; kept = c.add.new.self.kept; works = ws; log = c.push_reserved-2.new.self.items; side = book.side; room = room }) in
-    let pushed = c.push_reserved.ensures.items ∙ ap (λ (ws : List (Option ProgressView)). ws ++ c.args.work ∷ []) c.reserve_row.ensures.items in
+    let pushed = c.push_reserved.ensures.items ∙ ap (λ (ws : List (Option ProgressView)). ws ++ c.args.progress ∷ []) c.reserve_row.ensures.items in
     let pending = ap (λ (w : Table). count_by is_pending w.outcomes) table in (
       (
         omega (arith, pending, count-push book.table.outcomes (outcome_of c.args.entry), one_if-le (is_pending (outcome_of c.args.entry)), c.pending.ensures.value, c.in_ok-make_places.ensures.ok, c.make_places.ensures.len, c.push_reserved-2.ensures.len, c.push_reserved-2.ensures.capacity),

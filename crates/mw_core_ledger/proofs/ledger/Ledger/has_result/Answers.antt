@@ -14,7 +14,7 @@ returns-in-Some-index-clause-all c =
     let book : Book = record { table = b.store.table; kept = b.store.kept; works = b.works.items; log = b.log.items; side = b.side; room = room_in b.log.cap b.log.len b.store.table.outcomes } in
     let d = c.args.done.now in
     let k = c.task-t.result in
-    let u = c.in-Some-index.work in
+    let u = c.in-Some-index.progress in
     let names = ap (λ (v : Book). length v.table.names) c.self.view_is in
     let ticket = ap (λ (i : TaskId). i.ticket) c.task-t.ensures in
     let within : k.ticket < length b.works.items = omega (arith, ticket, c.requires.within, names, c.self.invariant.1.works) in
@@ -29,7 +29,7 @@ returns-in-Some-index-clause-result c = λ holds.
     let book : Book = record { table = b.store.table; kept = b.store.kept; works = b.works.items; log = b.log.items; side = b.side; room = room_in b.log.cap b.log.len b.store.table.outcomes } in
     let d = c.args.done.now in
     let k = c.task-t.result in
-    let u = c.in-Some-index.work in
+    let u = c.in-Some-index.progress in
     let names = ap (λ (v : Book). length v.table.names) c.self.view_is in
     let ticket = ap (λ (i : TaskId). i.ticket) c.task-t.ensures in
     let within : k.ticket < length b.works.items = omega (arith, ticket, c.requires.within, names, c.self.invariant.1.works) in

@@ -8,7 +8,7 @@ pub returns-in-Some : goal.returns-in-Some
 returns-in-Some c =
     let b = c.self.inside in
     let k = c.args.task in
-    let u = c.in-Some.work in
+    let u = c.in-Some.progress in
     let names = ap (λ (v : Book). length v.table.names) c.self.view_is in
     let there = found b.works.items k.ticket c.index.result.now u (omega (arith, c.requires, names, c.self.invariant.1.works)) c.index.ensures c.in-Some.is in
     let book : Book = record { table = b.store.table; kept = b.store.kept; works = b.works.items; log = b.log.items; side = b.side; room = room_in b.log.cap b.log.len b.store.table.outcomes } in

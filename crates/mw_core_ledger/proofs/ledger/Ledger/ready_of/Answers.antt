@@ -8,7 +8,7 @@ use Rattle.mw_core_ledger.proofs.ledger.Ledger.ready_of.Goals as goal
 pub returns-in-Some-clause-small : goal.returns-in-Some-clause-small
 returns-in-Some-clause-small c =
     let o = c.self.invariant.1 in
-    let p = c.in-Some.work.progress in
+    let p = c.in-Some.progress.progress in
     let names = ap (λ (b : Book). length b.table.names) c.self.view_is in
-    let there = found c.self.inside.works.items c.args.t c.index.result.now c.in-Some.work (omega (arith, c.requires, names, o.works)) c.index.ensures c.in-Some.is in
-    omega (arith, c.ready.ensures.value, count_by-most (is_ready p) (task_count p), o.most c.args.t c.in-Some.work there)
+    let there = found c.self.inside.works.items c.args.t c.index.result.now c.in-Some.progress (omega (arith, c.requires, names, o.works)) c.index.ensures c.in-Some.is in
+    omega (arith, c.ready.ensures.value, count_by-most (is_ready p) (task_count p), o.most c.args.t c.in-Some.progress there)

@@ -7,9 +7,9 @@ use Rattle.mw_grid.specs.Grids.{tile_count}
 use Rattle.mw_core_planes.specs.mw_ready.Boards.{step_reads}
 use Rattle.mw_core_planes.specs.mw_tile_planes.Tiles.{Tiled, tile_cells}
 use Rattle.mw_core_planes.specs.MadeTiles.{cells_of_made}
-use Rattle.mw_core_planes.specs.Places.{shown, form, no_place, place_at, planes_shown, placed_in, is_read, Suits, SweptAll}
-use Rattle.mw_core_planes.specs.declared.places.StepPlane.{StepPlane}
-use Rattle.mw_core_progress.specs.ProgressView.{ProgressView, IsFinished, Fits, number_of}
+use Rattle.mw_core_planes.specs.StepPlanes.{shown, form, no_place, place_at, planes_shown, placed_in, is_read, Suits, SweptAll}
+use Rattle.mw_core_planes.specs.declared.step_planes.StepPlane.{StepPlane}
+use Rattle.mw_core_progress.specs.ProgressView.{ProgressView, IsFinished, ResultFits, number_of}
 use Rattle.mw_core_progress.specs.Parts.{underway_kept}
 use Rattle.mw_core_progress.proofs.Boarded.{runs_is}
 use Rattle.mw_core_progress.proofs.Opened.{shown_at}
@@ -24,7 +24,7 @@ finish-requires c =
     let a = c.args in
     let g = i.grid in
     let ps = i.places.items in
-    let fits = subst (λ (u : ProgressView). Fits u a.step a.tile a.made) (sym c.self.view_is) c.requires.fits in
+    let fits = subst (λ (u : ProgressView). ResultFits u a.step a.tile a.made) (sym c.self.view_is) c.requires.fits in
     let running = subst (λ (u : ProgressView). is_running u.progress (number_of u.progress a.step a.tile) ≡ true) (sym c.self.view_is) c.requires.running in
     runs_is i.plan i.input g i.ready.board (planes_shown g ps) i.ready.order a.step a.tile c.self.invariant.1 c.tasks_are_those_of_work.ensures fits.within fits.inside running
 
@@ -34,7 +34,7 @@ drop_read-requires-clause-steps c =
     let a = c.args in
     let g = i.grid in
     let ps = i.places.items in
-    let fits = subst (λ (u : ProgressView). Fits u a.step a.tile a.made) (sym c.self.view_is) c.requires.fits in
+    let fits = subst (λ (u : ProgressView). ResultFits u a.step a.tile a.made) (sym c.self.view_is) c.requires.fits in
     let running = subst (λ (u : ProgressView). is_running u.progress (number_of u.progress a.step a.tile) ≡ true) (sym c.self.view_is) c.requires.running in
     λ k read. subst (λ (xs : List StepPlane). (k < length xs) × (form (place_at xs k) ≢ 2)) (sym c.deref_mut.ensures.value)
     (read_places i.plan i.input g i.ready ps a.step k c.need-need.result c.self.invariant.0 c.self.invariant.1 c.self.invariant.2 fits.within c.need-need.ensures read)
@@ -45,7 +45,7 @@ drop_read-requires-clause-grids c =
     let a = c.args in
     let g = i.grid in
     let ps = i.places.items in
-    let fits = subst (λ (u : ProgressView). Fits u a.step a.tile a.made) (sym c.self.view_is) c.requires.fits in
+    let fits = subst (λ (u : ProgressView). ResultFits u a.step a.tile a.made) (sym c.self.view_is) c.requires.fits in
     let running = subst (λ (u : ProgressView). is_running u.progress (number_of u.progress a.step a.tile) ≡ true) (sym c.self.view_is) c.requires.running in
     λ k. subst (λ (xs : List StepPlane). (shown g (place_at xs k)).tiling ≡ g) (sym c.deref_mut.ensures.value) (ap (λ (q : Tiled). q.tiling) (sym (shown_at g ps k)) ∙ c.self.invariant.0.tilings k)
 
@@ -55,7 +55,7 @@ drop_read-requires-clause-counts c =
     let a = c.args in
     let g = i.grid in
     let ps = i.places.items in
-    let fits = subst (λ (u : ProgressView). Fits u a.step a.tile a.made) (sym c.self.view_is) c.requires.fits in
+    let fits = subst (λ (u : ProgressView). ResultFits u a.step a.tile a.made) (sym c.self.view_is) c.requires.fits in
     let running = subst (λ (u : ProgressView). is_running u.progress (number_of u.progress a.step a.tile) ≡ true) (sym c.self.view_is) c.requires.running in
     λ k. subst (λ (xs : List StepPlane). length (shown g (place_at xs k)).tiles ≡ tile_count g) (sym c.deref_mut.ensures.value) (ap (λ (q : Tiled). length q.tiles) (sym (shown_at g ps k)) ∙ c.self.invariant.0.counts k)
 
@@ -65,7 +65,7 @@ put-requires-clause-tiling c =
     let a = c.args in
     let g = i.grid in
     let ps = i.places.items in
-    let fits = subst (λ (u : ProgressView). Fits u a.step a.tile a.made) (sym c.self.view_is) c.requires.fits in
+    let fits = subst (λ (u : ProgressView). ResultFits u a.step a.tile a.made) (sym c.self.view_is) c.requires.fits in
     let running = subst (λ (u : ProgressView). is_running u.progress (number_of u.progress a.step a.tile) ≡ true) (sym c.self.view_is) c.requires.running in
     let now = c.finish.new.self in
     let swept = c.drop_read.new.places in
@@ -83,7 +83,7 @@ put-requires-clause-free c =
     let a = c.args in
     let g = i.grid in
     let ps = i.places.items in
-    let fits = subst (λ (u : ProgressView). Fits u a.step a.tile a.made) (sym c.self.view_is) c.requires.fits in
+    let fits = subst (λ (u : ProgressView). ResultFits u a.step a.tile a.made) (sym c.self.view_is) c.requires.fits in
     let running = subst (λ (u : ProgressView). is_running u.progress (number_of u.progress a.step a.tile) ≡ true) (sym c.self.view_is) c.requires.running in
     let now = c.finish.new.self in
     let swept = c.drop_read.new.places in
@@ -101,7 +101,7 @@ put-requires-clause-suits c =
     let a = c.args in
     let g = i.grid in
     let ps = i.places.items in
-    let fits = subst (λ (u : ProgressView). Fits u a.step a.tile a.made) (sym c.self.view_is) c.requires.fits in
+    let fits = subst (λ (u : ProgressView). ResultFits u a.step a.tile a.made) (sym c.self.view_is) c.requires.fits in
     let running = subst (λ (u : ProgressView). is_running u.progress (number_of u.progress a.step a.tile) ≡ true) (sym c.self.view_is) c.requires.running in
     let now = c.finish.new.self in
     let swept = c.drop_read.new.places in
@@ -119,7 +119,7 @@ invariant_of-self c =
     let a = c.args in
     let g = i.grid in
     let ps = i.places.items in
-    let fits = subst (λ (u : ProgressView). Fits u a.step a.tile a.made) (sym c.self.view_is) c.requires.fits in
+    let fits = subst (λ (u : ProgressView). ResultFits u a.step a.tile a.made) (sym c.self.view_is) c.requires.fits in
     let running = subst (λ (u : ProgressView). is_running u.progress (number_of u.progress a.step a.tile) ≡ true) (sym c.self.view_is) c.requires.running in
     let now = c.finish.new.self in
     let swept = c.drop_read.new.places in
@@ -156,7 +156,7 @@ invariant_of-self-else-is_kept c =
     let a = c.args in
     let g = i.grid in
     let ps = i.places.items in
-    let fits = subst (λ (u : ProgressView). Fits u a.step a.tile a.made) (sym c.self.view_is) c.requires.fits in
+    let fits = subst (λ (u : ProgressView). ResultFits u a.step a.tile a.made) (sym c.self.view_is) c.requires.fits in
     let running = subst (λ (u : ProgressView). is_running u.progress (number_of u.progress a.step a.tile) ≡ true) (sym c.self.view_is) c.requires.running in
     let now = c.finish.new.self in
     let swept = c.drop_read.new.places in
@@ -190,7 +190,7 @@ returns-then-is_kept-clause-finished c =
     let a = c.args in
     let g = i.grid in
     let ps = i.places.items in
-    let fits = subst (λ (u : ProgressView). Fits u a.step a.tile a.made) (sym c.self.view_is) c.requires.fits in
+    let fits = subst (λ (u : ProgressView). ResultFits u a.step a.tile a.made) (sym c.self.view_is) c.requires.fits in
     let running = subst (λ (u : ProgressView). is_running u.progress (number_of u.progress a.step a.tile) ≡ true) (sym c.self.view_is) c.requires.running in
     let now = c.finish.new.self in
     let swept = c.drop_read.new.places in
@@ -227,7 +227,7 @@ returns-then-is_kept-clause-whole c =
     let a = c.args in
     let g = i.grid in
     let ps = i.places.items in
-    let fits = subst (λ (u : ProgressView). Fits u a.step a.tile a.made) (sym c.self.view_is) c.requires.fits in
+    let fits = subst (λ (u : ProgressView). ResultFits u a.step a.tile a.made) (sym c.self.view_is) c.requires.fits in
     let running = subst (λ (u : ProgressView). is_running u.progress (number_of u.progress a.step a.tile) ≡ true) (sym c.self.view_is) c.requires.running in
     let now = c.finish.new.self in
     let swept = c.drop_read.new.places in
@@ -264,7 +264,7 @@ returns-else-is_kept-clause-finished c =
     let a = c.args in
     let g = i.grid in
     let ps = i.places.items in
-    let fits = subst (λ (u : ProgressView). Fits u a.step a.tile a.made) (sym c.self.view_is) c.requires.fits in
+    let fits = subst (λ (u : ProgressView). ResultFits u a.step a.tile a.made) (sym c.self.view_is) c.requires.fits in
     let running = subst (λ (u : ProgressView). is_running u.progress (number_of u.progress a.step a.tile) ≡ true) (sym c.self.view_is) c.requires.running in
     let now = c.finish.new.self in
     let swept = c.drop_read.new.places in
@@ -298,7 +298,7 @@ returns-else-is_kept-clause-whole c =
     let a = c.args in
     let g = i.grid in
     let ps = i.places.items in
-    let fits = subst (λ (u : ProgressView). Fits u a.step a.tile a.made) (sym c.self.view_is) c.requires.fits in
+    let fits = subst (λ (u : ProgressView). ResultFits u a.step a.tile a.made) (sym c.self.view_is) c.requires.fits in
     let running = subst (λ (u : ProgressView). is_running u.progress (number_of u.progress a.step a.tile) ≡ true) (sym c.self.view_is) c.requires.running in
     let now = c.finish.new.self in
     let swept = c.drop_read.new.places in

@@ -1,7 +1,7 @@
 use Rattle.std.proofs.Common.{◌≡◌, ℕ, ◌-◌, false, length, get_or, sym, ap, subst, ◌∙◌, arith}
 use Rattle.mw_model.specs.Plans.{is_sum}
 use Rattle.mw_model.specs.Tasks.{remaining_tasks, nothing_planned}
-use Rattle.mw_core_planes.specs.Places.{form, no_place, place_at}
+use Rattle.mw_core_planes.specs.StepPlanes.{form, no_place, place_at}
 use Rattle.mw_core_progress.specs.ProgressView.{ProgressView, plane_at}
 use Rattle.mw_core_progress.proofs.Ended.{sizes_are, last_form, last_is, not_open, last_plane}
 use Rattle.mw_core_progress.proofs.progress.PlanProgress.into_plane.Goals as goal

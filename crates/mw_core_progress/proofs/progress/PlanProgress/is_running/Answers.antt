@@ -1,7 +1,7 @@
 use Rattle.std.proofs.Common.{◌≡◌, ◌<◌, ◌↔◌, IsTrue, true, length, subst}
 use Rattle.mw_model.specs.Tasks.{is_running}
 use Rattle.mw_grid.specs.Grids.{tile_count}
-use Rattle.mw_core_planes.specs.Places.{planes_shown}
+use Rattle.mw_core_planes.specs.StepPlanes.{planes_shown}
 use Rattle.mw_core_progress.specs.ProgressView.{ProgressView, number_of}
 use Rattle.mw_core_progress.proofs.Boarded.{runs_is, is_run}
 use Rattle.mw_core_progress.proofs.progress.PlanProgress.is_running.Goals as goal

@@ -1,5 +1,5 @@
 use Rattle.std.proofs.Common.{map, sym, ap, subst, ◌∙◌, arith}
-use Rattle.mw_core_planes.specs.declared.places.StepPlane.TheVariants.{Closed}
+use Rattle.mw_core_planes.specs.declared.step_planes.StepPlane.TheVariants.{Closed}
 use Rattle.mw_core_progress.specs.ProgressView.{IsWorkable}
 use Rattle.mw_core_progress.proofs.Fresh.{Beginning, begin_whole, begin_fresh, planes_are}
 use Rattle.mw_core_progress.proofs.progress.PlanProgress.new.Goals as goal

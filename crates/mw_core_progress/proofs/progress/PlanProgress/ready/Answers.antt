@@ -1,6 +1,6 @@
 use Rattle.std.proofs.Common.{◌≡◌, subst, sym, ◌∙◌}
 use Rattle.mw_model.specs.Tasks.{ready_tasks}
-use Rattle.mw_core_planes.specs.Places.{planes_shown}
+use Rattle.mw_core_planes.specs.StepPlanes.{planes_shown}
 use Rattle.mw_core_progress.specs.ProgressView.{ProgressView}
 use Rattle.mw_core_progress.proofs.Boarded.{same_work}
 use Rattle.mw_core_progress.proofs.progress.PlanProgress.ready.Goals as goal

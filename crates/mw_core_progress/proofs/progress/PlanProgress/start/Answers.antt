@@ -2,7 +2,7 @@ use Rattle.std.proofs.Common.{◌≡◌, ℕ, ◌<◌, true, set, sym, ap, subst
 use Rattle.std.specs.Prelude.{slice_index}
 use Rattle.mw_model.specs.Plans.{Planned, is_sum}
 use Rattle.mw_model.specs.Tasks.{ready_tasks}
-use Rattle.mw_core_planes.specs.Places.{planes_shown}
+use Rattle.mw_core_planes.specs.StepPlanes.{planes_shown}
 use Rattle.mw_core_progress.specs.ProgressView.{ProgressView, IsStarted}
 use Rattle.mw_core_progress.specs.Parts.{underway_kept}
 use Rattle.mw_core_progress.proofs.Boarded.{place_is}

@@ -1,7 +1,7 @@
 use Rattle.std.proofs.Common.{◌≡◌, ◌<◌, true, subst, sym, ◌∙◌}
 use Rattle.std.specs.Prelude.{slice_index}
 use Rattle.mw_model.specs.Tasks.{ready_tasks, is_ready}
-use Rattle.mw_core_planes.specs.Places.{planes_shown}
+use Rattle.mw_core_planes.specs.StepPlanes.{planes_shown}
 use Rattle.mw_core_progress.specs.ProgressView.{ProgressView, number_of}
 use Rattle.mw_core_progress.proofs.Boarded.{place_is, number_is, ready_is}
 use Rattle.mw_core_progress.proofs.progress.PlanProgress.task_at.Goals as goal

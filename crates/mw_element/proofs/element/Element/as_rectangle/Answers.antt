@@ -1,6 +1,6 @@
 use Rattle.std.proofs.Common.{subst}
 use Rattle.std.specs.Prelude.{IfNone}
-use Rattle.mw_model.specs.declared.places.OffsetBox.{OffsetBox}
+use Rattle.mw_model.specs.declared.offsets.OffsetBox.{OffsetBox}
 use Rattle.mw_model.specs.Elements.{Figure}
 use Rattle.mw_element.specs.Figures.{FillsBox}
 use Rattle.mw_element.proofs.element.Element.as_rectangle.Goals as goal

@@ -1,7 +1,7 @@
 use Rattle.std.proofs.Common.{sym, subst, ◌∙◌}
 use Rattle.mw_model.specs.Elements.{IsFigure, figure_of}
 use Rattle.mw_element.specs.BitmapElements.{no_ones}
-use Rattle.mw_element.specs.Figures.{Rises}
+use Rattle.mw_element.specs.Figures.{OffsetsRise}
 use Rattle.mw_element.proofs.Few.{few_within}
 use Rattle.mw_element.proofs.Found.{offsets_figure}
 use Rattle.mw_element.proofs.OfBitmaps.{element_of, figure_made, not_fitting, not_placed, nothing_in}
@@ -48,4 +48,4 @@ new-requires-clause-few c =
     few_within c.args.bitmap.now c.args.ox c.args.oy c.in_ok-found.found.items fits.narrow fits.low c.in_ok-found.ensures.items
 
 pub new-requires-clause-ordered : goal.new-requires-clause-ordered
-new-requires-clause-ordered c = subst Rises (sym c.in_ok-found.ensures.items) (offsets_rise c.args.bitmap.now c.args.ox c.args.oy (c.sides_fit.ensures.0 c.if-not-sides_fit.false).narrow)
+new-requires-clause-ordered c = subst OffsetsRise (sym c.in_ok-found.ensures.items) (offsets_rise c.args.bitmap.now c.args.ox c.args.oy (c.sides_fit.ensures.0 c.if-not-sides_fit.false).narrow)

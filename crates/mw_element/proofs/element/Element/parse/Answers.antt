@@ -2,7 +2,7 @@ use Rattle.std.proofs.Common.{subst, sym}
 use Rattle.std.proofs.lemmas.Result.{err_from_is_err_and}
 use Rattle.mw_model.specs.Elements.{element_side, no_bitmap}
 use Rattle.mw_netpbm_plain.specs.Faults.{bitmap_code_of, facts_of}
-use Rattle.mw_element.specs.Figures.{Rises}
+use Rattle.mw_element.specs.Figures.{OffsetsRise}
 use Rattle.mw_element.proofs.Order.{offsets_rise}
 use Rattle.mw_element.proofs.Found.{bitmap_sides, no_element, no_place, IsElement-no_ones, origin_refused, empty_told, facts_same, Told-figure, told_element, made_is_figure, made_element, made_only}
 use Rattle.mw_element.proofs.Few.{few_offsets}
@@ -91,4 +91,4 @@ pub new-requires-clause-ordered : goal.new-requires-clause-ordered
 new-requires-clause-ordered c =
     let f = c.in-Ok.bitmap in
     let sides = bitmap_sides c.args.bytes.now element_side f c.in-Ok.ensures.found in
-    subst Rises (sym c.in_ok-found.ensures.items) (offsets_rise f c.args.ox c.args.oy sides.2)
+    subst OffsetsRise (sym c.in_ok-found.ensures.items) (offsets_rise f c.args.ox c.args.oy sides.2)

@@ -1,7 +1,7 @@
 use Rattle.std.proofs.Common.{sym, subst}
-use Rattle.mw_model.specs.declared.places.Reach.{Reach}
+use Rattle.mw_model.specs.declared.offsets.Reach.{Reach}
 use Rattle.mw_model.specs.Elements.{Figure}
-use Rattle.mw_model.specs.Places.{WithinReach}
+use Rattle.mw_model.specs.Rectangles.{WithinReach}
 use Rattle.mw_element.proofs.Lists.{reach_within}
 use Rattle.mw_element.proofs.element.Element.reach.Goals as goal
 

@@ -1,11 +1,11 @@
 use Rattle.std.proofs.Common.{List, not, length, sym, ◌∙◌, ap, subst, arith}
 use Rattle.std.proofs.lemmas.List.{length-map}
 use Rattle.std.specs.List.{AllByRecursion}
-use Rattle.mw_model.specs.declared.places.Offset.{Offset}
+use Rattle.mw_model.specs.declared.offsets.Offset.{Offset}
 use Rattle.mw_element_runs.specs.declared.runs.Run.{Run}
 use Rattle.mw_model.specs.Elements.{Figure, IsFigure, reach_of}
 use Rattle.mw_model.specs.Flat.{reflected}
-use Rattle.mw_element.specs.Figures.{Rises, by_rows, figure, turned}
+use Rattle.mw_element.specs.Figures.{OffsetsRise, by_rows, figure, turned}
 use Rattle.mw_element.specs.Told.{IsNearRun, TellsBox, TellsRuns, turned_runs}
 use Rattle.mw_element.proofs.Lists.{reflected_figure}
 use Rattle.mw_element.proofs.Order.{reflected_rise}
@@ -20,7 +20,7 @@ invariant_of-result c =
     let seen = sym (same ∙ ap (λ (f : Figure). reflected f.offsets) c.self.view_is) in (
       subst (λ (xs : List Offset). IsFigure (figure e.width e.height xs)) (sym same) (reflected_figure e.width e.height e.offsets.items c.self.invariant.0),
       omega (arith, few, ap (λ (xs : List Offset). length xs) same ∙ length-map e.offsets.items turned),
-      subst (λ (xs : List Offset). Rises (by_rows (not e.is_turned) xs)) (sym same) (reflected_rise e.is_turned e.offsets.items c.self.invariant.2),
+      subst (λ (xs : List Offset). OffsetsRise (by_rows (not e.is_turned) xs)) (sym same) (reflected_rise e.is_turned e.offsets.items c.self.invariant.2),
       c.turned_reach-reach.ensures ∙ ap reach_of seen,
       subst (TellsBox c.turned_rectangle-rectangle.result) c.deref-3.ensures.value c.turned_rectangle-rectangle.ensures,
       subst (TellsRuns (not e.is_turned) c.in_ok-runs.runs.items) (sym same)

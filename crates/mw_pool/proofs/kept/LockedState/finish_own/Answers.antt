@@ -1,6 +1,6 @@
 use Rattle.mw_model.specs.Machine.{Machine}
 use Rattle.mw_model.specs.Stands.{StandsFor}
-use Rattle.mw_core.specs.TaskAnswers.{Finishes}
+use Rattle.mw_core.specs.TaskAnswers.{AnswersFinish}
 use Rattle.mw_pool.proofs.KeptLemmas.{stands-finished}
 use Rattle.mw_pool.proofs.Handing.{handed-finished, roll-own}
 use Rattle.mw_pool.proofs.kept.LockedState.finish_own.Goals as goal
@@ -9,7 +9,7 @@ pub invariant_of-self : goal.invariant_of-self
 invariant_of-self g c =
     let old = c.args.self.now.core in
     let new = c.finish_own.new.self in
-    let task : (m : Machine) → StandsFor old m → Finishes old m c.args.done c.finish_own.result new
+    let task : (m : Machine) → StandsFor old m → AnswersFinish old m c.args.done c.finish_own.result new
     = λ m s. c.finish_own.ensures.task m s (roll-own old c.args.self.now.roll c.args.done c.args.self.now.handed c.requires.handed m s) in
     record {
       stands = stands-finished old new c.args.done c.finish_own.result c.args.self.now.stands task;

@@ -1,9 +1,9 @@
 use Rattle.std.proofs.Common.{◌≡◌, ℕ, ◌+◌, ◌-◌, ◌*◌, ◌∙◌, ◌++◌, List, length, take, drop, ap, subst, sym, true, set, arith}
 use Rattle.std.proofs.lemmas.List.{get_or_default}
 use Rattle.mw_model.proofs.mw_facts.Elements.{take-written}
-use Rattle.mw_ready.specs.Boards.{Turns, task_number, Runs, no_need}
+use Rattle.mw_ready.specs.Boards.{Turns, task_number, RunsOn, no_need}
 use Rattle.mw_ready.specs.Kept.{board_of, Keeps, CountsReaders, takes}
-use Rattle.mw_ready.specs.Counters.{Lowers, Counted}
+use Rattle.mw_ready.specs.Counters.{Lowers, NoneIsZero}
 use Rattle.mw_ready.proofs.Keeping.{some_run, readers_wait_given, finish_keeps_given, number_within}
 use Rattle.mw_ready.proofs.ReaderCounts.{readers_counted, finish_readers}
 use Rattle.mw_ready.proofs.ready.Ready.finish.Goals as goal
@@ -12,20 +12,20 @@ pub overflow_sub-self : goal.overflow_sub-self
 overflow_sub-self c =
     let a = c.self.inside in
     let b = board_of a.needs.items a.grid a.queue a.finished.items in
-    let runs = subst (λ (v : Turns). Runs v.board c.args.step c.args.tile) (sym c.self.view_is) c.requires in
+    let runs = subst (λ (v : Turns). RunsOn v.board c.args.step c.args.tile) (sym c.self.view_is) c.requires in
     (some_run b a.queue.waiting a.queue.waiting a.running a.remaining (task_number a.grid c.args.step c.args.tile) c.self.invariant.0 (number_within b c.args.step c.args.tile runs) runs.running).0
 
 pub overflow_sub-self-2 : goal.overflow_sub-self-2
 overflow_sub-self-2 c =
     let a = c.self.inside in
     let b = board_of a.needs.items a.grid a.queue a.finished.items in
-    let runs = subst (λ (v : Turns). Runs v.board c.args.step c.args.tile) (sym c.self.view_is) c.requires in
+    let runs = subst (λ (v : Turns). RunsOn v.board c.args.step c.args.tile) (sym c.self.view_is) c.requires in
     (some_run b a.queue.waiting a.queue.waiting a.running a.remaining (task_number a.grid c.args.step c.args.tile) c.self.invariant.0 (number_within b c.args.step c.args.tile runs) runs.running).1
 
 pub release_readers-requires-clause-waiting : goal.release_readers-requires-clause-waiting
 release_readers-requires-clause-waiting c =
     let a = c.self.inside in
-    let runs = subst (λ (v : Turns). Runs v.board c.args.step c.args.tile) (sym c.self.view_is) c.requires in
+    let runs = subst (λ (v : Turns). RunsOn v.board c.args.step c.args.tile) (sym c.self.view_is) c.requires in
     readers_wait_given a.needs.items c.deref.result.now a.grid a.queue a.finished.items a.running a.remaining c.args.step c.args.tile c.self.invariant.0 runs c.deref.ensures.value
 
 pub lower_sources-requires-clause-some : goal.lower_sources-requires-clause-some
@@ -33,16 +33,16 @@ lower_sources-requires-clause-some c =
     let a = c.self.inside in
     let b = board_of a.needs.items a.grid a.queue a.finished.items in
     let need = c.index-need.result.now in
-    let runs = subst (λ (v : Turns). Runs v.board c.args.step c.args.tile) (sym c.self.view_is) c.requires in
+    let runs = subst (λ (v : Turns). RunsOn v.board c.args.step c.args.tile) (sym c.self.view_is) c.requires in
     let need-is = sym (c.index-need.ensures ∙ get_or_default a.needs.items c.args.step need no_need runs.within) in
-    subst (λ (xs : List ℕ). Counted (takes need a.grid c.args.tile) xs) (sym c.deref_mut.ensures.value)
+    subst (λ (xs : List ℕ). NoneIsZero (takes need a.grid c.args.tile) xs) (sym c.deref_mut.ensures.value)
     (readers_counted b a.readers.items a.queue.waiting need a.running a.remaining c.args.step c.args.tile c.self.invariant.0 c.self.invariant.3 runs need-is)
 
 pub invariant_of-self : goal.invariant_of-self
 invariant_of-self c =
     let a = c.self.inside in
     let b = board_of a.needs.items a.grid a.queue a.finished.items in
-    let runs = subst (λ (v : Turns). Runs v.board c.args.step c.args.tile) (sym c.self.view_is) c.requires in
+    let runs = subst (λ (v : Turns). RunsOn v.board c.args.step c.args.tile) (sym c.self.view_is) c.requires in
     let e = c.release_readers.ensures in
     let need = c.index-need.result.now in
     let need-is = sym (c.index-need.ensures ∙ get_or_default a.needs.items c.args.step need no_need runs.within) in

@@ -1,6 +1,6 @@
 use Rattle.std.proofs.Common.{◌≡◌, ◌<◌, ◌+◌, ◌*◌, ◌∙◌, subst, sym, refl, arith, length, true}
 use Rattle.mw_model.proofs.mw_facts.Counts.{count_by-most}
-use Rattle.mw_ready.specs.Boards.{Turns, ready_tasks, is_ready, is_running, task_number, task_count}
+use Rattle.mw_ready.specs.Boards.{Turns, ready_tasks_on, is_ready_on, is_running_on, task_number, task_count_on}
 use Rattle.mw_ready.specs.Kept.{board_of}
 use Rattle.mw_ready.proofs.Keeping.{count_is, start_keeps_given, step_of_number, open_number}
 use Rattle.mw_ready.proofs.ready.Ready.start.Goals as goal
@@ -8,7 +8,7 @@ use Rattle.mw_ready.proofs.ready.Ready.start.Goals as goal
 pub take-task-requires : goal.take-task-requires
 take-task-requires c =
     let a = c.self.inside in
-    let most = subst (λ (v : Turns). c.args.place < ready_tasks v.board) (sym c.self.view_is) c.requires in
+    let most = subst (λ (v : Turns). c.args.place < ready_tasks_on v.board) (sym c.self.view_is) c.requires in
     omega (arith, most, count_is (board_of a.needs.items a.grid a.queue a.finished.items) a.queue.waiting a.running a.remaining _ c.self.invariant.0 refl)
 
 pub overflow_add-self : goal.overflow_add-self
@@ -16,7 +16,7 @@ overflow_add-self c =
     let a = c.self.inside in
     let b = board_of a.needs.items a.grid a.queue a.finished.items in
     let keeps = c.self.invariant.0 in
-    omega (arith, keeps.running, keeps.small, count_by-most (is_running b) (task_count b))
+    omega (arith, keeps.running, keeps.small, count_by-most (is_running_on b) (task_count_on b))
 
 pub invariant_of-self : goal.invariant_of-self
 invariant_of-self c =
@@ -43,5 +43,5 @@ returns-clause-ready c =
     let a = c.self.inside in
     let b = board_of a.needs.items a.grid a.queue a.finished.items in
     let e = c.take-task.ensures in
-    subst (λ (v : Turns). is_ready v.board (task_number v.board.grid c.take-task.result.0 c.take-task.result.1) ≡ true) c.self.view_is
+    subst (λ (v : Turns). is_ready_on v.board (task_number v.board.grid c.take-task.result.0 c.take-task.result.1) ≡ true) c.self.view_is
     (open_number b a.queue.waiting a.running a.remaining a.queue.tiles c.take-task.result.0 c.take-task.result.1 c.self.invariant.0 c.self.invariant.1 e.within e.opened)

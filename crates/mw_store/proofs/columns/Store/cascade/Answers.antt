@@ -47,6 +47,7 @@ invariant_of-self c =
     let s : Stored = record { table = w; kept = map (option_map kept_value) a.kept.items } in
     let t = c.args.t in
     let named : t < length a.names.keys = let R : Stored → Type 0 = λ s. t < length s.table.names in subst R (sym c.self.view_is) c.requires.within in
+    let was : outcome_at a.outcomes.items t ≡ outcome.Pending = let R : Stored → Type 0 = λ s. outcome_at s.table.outcomes t ≡ outcome.Pending in subst R (sym c.self.view_is) c.requires.pending in
     let os = c.fail_dependents.new.outcomes in
     let now = c.count_wanted.new.wanted in
     let rest = c.drop_settled.new.waiting in
@@ -64,7 +65,7 @@ invariant_of-self c =
     let kept-size : length (map (option_map kept_value) new) ≡ length s.kept
     = omega (arith, length-map new (option_map kept_value), length-map a.kept.items (option_map kept_value), c.drop_spent.auto.kept, ap length c.deref_mut-4.ensures.value) in
     rw (shown, counts, take_at rest _ a.waiting.len (omega (arith, c.drop_settled.auto.waiting, c.deref_mut-3.ensures.len)), take_at new _ a.kept.len (omega (arith, c.drop_spent.auto.kept, c.deref_mut-4.ensures.len))) (
-      (kill-tracked s a.wanted.items now a.waiting.items rest a.pending c.count_pending-self-inside.result t c.args.cause os (map (option_map kept_value) new) c.self.invariant.0 named c.requires.dead is size
+      (kill-tracked s a.wanted.items now a.waiting.items rest a.pending c.count_pending-self-inside.result t c.args.cause os (map (option_map kept_value) new) c.self.invariant.0 named was c.requires.dead is size
           (omega (arith, c.count_wanted.auto.wanted, ap length c.deref_mut-2.ensures.value)) (omega (arith, c.drop_settled.auto.waiting, ap length c.deref_mut-3.ensures.value)) kept-size
           counted each count (kill-drops s os now (map (option_map kept_value) new) (size ∙ c.self.invariant.0.whole.outcomes) counted dropped)),
       c.self.invariant.1,

@@ -7,7 +7,7 @@ use Rattle.mw_model.specs.Refusals.{is_pending, outcome_at, ticket_of}
 use Rattle.mw_model.specs.Names.{same_name}
 use Rattle.mw_model.specs.Values.{tickets}
 use Rattle.mw_store.specs.Kept.{kept_value}
-use Rattle.mw_store.specs.Places.{HasRows}
+use Rattle.mw_store.specs.RowRoom.{HasRowOfEach}
 use Rattle.mw_store.specs.Stored.{Stored}
 use Rattle.mw_store.specs.Waiting.{Waiting, entry_for, waiting_at}
 use Rattle.mw_store.specs.Wanted.{is_among, one_if}
@@ -96,7 +96,7 @@ invariant_of-self-2 c =
     let whole = tracked.whole in
     let keys = a.names.keys ++ c.args.name ∷ [] in
     let more : length keys ≡ length a.names.keys + 1 = length-append a.names.keys (c.args.name ∷ []) in
-    let rows : HasRows (length keys) c.push_reserved.new.self.cap c.push_reserved-2.new.self.cap c.push_reserved-3.new.self.cap c.push_reserved-4.new.self.cap c.push_reserved-5.new.self.cap (length keys + spare c.insert.new.self) = record { submissions = omega (arith, more, c.in_ok-reserve_row.ensures.row, c.push_reserved.ensures.capacity, whole.submissions, a.submissions.ok.0); outcomes = omega (arith, more, c.in_ok-reserve_row-2.ensures.row, c.push_reserved-2.ensures.capacity, whole.outcomes, a.outcomes.ok.0); kept = omega (arith, more, c.in_ok-reserve_row-3.ensures.row, c.push_reserved-3.ensures.capacity, whole.kept, a.kept.ok.0, length-map a.kept.items (option_map kept_value)); wanted = omega (arith, more, c.in_ok-reserve_row-4.ensures.row, c.push_reserved-4.ensures.capacity, tracked.counted, a.wanted.ok.0); waiting = omega (arith, more, c.in_ok-reserve_row-5.ensures.row, c.push_reserved-5.ensures.capacity, tracked.listed, a.waiting.ok.0); names = omega (arith, more, c.in_ok-reserve_name.ensures.row, c.insert.ensures.spare) } in
+    let rows : HasRowOfEach (length keys) c.push_reserved.new.self.cap c.push_reserved-2.new.self.cap c.push_reserved-3.new.self.cap c.push_reserved-4.new.self.cap c.push_reserved-5.new.self.cap (length keys + spare c.insert.new.self) = record { submissions = omega (arith, more, c.in_ok-reserve_row.ensures.row, c.push_reserved.ensures.capacity, whole.submissions, a.submissions.ok.0); outcomes = omega (arith, more, c.in_ok-reserve_row-2.ensures.row, c.push_reserved-2.ensures.capacity, whole.outcomes, a.outcomes.ok.0); kept = omega (arith, more, c.in_ok-reserve_row-3.ensures.row, c.push_reserved-3.ensures.capacity, whole.kept, a.kept.ok.0, length-map a.kept.items (option_map kept_value)); wanted = omega (arith, more, c.in_ok-reserve_row-4.ensures.row, c.push_reserved-4.ensures.capacity, tracked.counted, a.wanted.ok.0); waiting = omega (arith, more, c.in_ok-reserve_row-5.ensures.row, c.push_reserved-5.ensures.capacity, tracked.listed, a.waiting.ok.0); names = omega (arith, more, c.in_ok-reserve_name.ensures.row, c.insert.ensures.spare) } in
     rw (
       names,
       c.push_reserved.ensures.items,
@@ -110,7 +110,7 @@ invariant_of-self-2 c =
       take_at rest _ c.push_reserved-5.new.self.len (omega (arith, c.push_inputs.auto.waiting, c.deref_mut-3.ensures.len)),
     ) (
       push-tracked s a.wanted.items now made rest a.pending (a.pending + c.one_if_pending.result) c.args.name c.args.submission c.args.outcome (option_map kept_value c.args.value) c.none.result waited
-          tracked room below living c.requires.kept c.none.ensures counts-size lists-size raised waits each (ap (λ (n : ℕ). a.pending + n) c.one_if_pending.ensures),
+          tracked room below living c.requires.element c.requires.kept c.none.ensures counts-size lists-size raised waits each (ap (λ (n : ℕ). a.pending + n) c.one_if_pending.ensures),
       rows,
     )
 

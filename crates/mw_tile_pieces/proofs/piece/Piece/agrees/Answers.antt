@@ -1,5 +1,5 @@
 use Rattle.std.proofs.Common.{◌≡◌, ap, arith, ◌∙◌}
-use Rattle.mw_model.specs.declared.places.Rect.{Rect}
+use Rattle.mw_model.specs.declared.offsets.Rect.{Rect}
 use Rattle.mw_model.specs.Rasters.{Raster}
 use Rattle.mw_tile_pieces.specs.Patches.{cell_of, overlap_of, patch}
 use Rattle.mw_tile_pieces.proofs.Patches.{above_more, row_same, rows_of, run_in, RowsOf}

@@ -1,7 +1,7 @@
 use Rattle.std.proofs.Common.{◌≡◌, ◌<◌, length, List, ap, sym, subst, arith, rules, ◌∙◌}
 use Rattle.std.specs.List.{AllByRecursion}
 use Rattle.mw_model.proofs.mw_facts.Alls.{all-take_whole}
-use Rattle.mw_model.specs.declared.places.Rect.{Rect}
+use Rattle.mw_model.specs.declared.offsets.Rect.{Rect}
 use Rattle.mw_grid.specs.Rectangles.{whole_frame}
 use Rattle.mw_tile_pieces.specs.Patches.{IsPatchOf, Patch, ShowsIn}
 use Rattle.mw_tile_pieces.proofs.Patches.{all_next, at_frame, each_shows, frame_at, inside_frame, patch_of, read_at, shown_by, within_as}

@@ -3,7 +3,7 @@ use Rattle.std.specs.Arc.{arc_value}
 use Rattle.mw_model.specs.Rasters.{Raster}
 use Rattle.mw_tile_slots.specs.Tiles.{cells_of}
 use Rattle.mw_tile_planes.specs.Tiles.{Tiled}
-use Rattle.mw_tile_planes.specs.Held.{image_of_tile, IsHeld, tiled_held}
+use Rattle.mw_tile_planes.specs.Held.{image_of_tile, TilesAreHeld, tiled_held}
 use Rattle.mw_tile_planes.specs.declared.plane.Samples.{Samples}
 use Rattle.mw_tile_planes.specs.declared.tile.Tile.{Tile}
 use Rattle.mw_tile_planes.proofs.Sides.{bounded_tile, held_write}
@@ -11,7 +11,7 @@ use Rattle.mw_tile_planes.proofs.plane.TiledPlane.place.Goals as goal
 
 pub invariant_of-self : goal.invariant_of-self
 invariant_of-self c =
-    let held = subst (IsHeld c.self.inside.grid) c.in-Bits-content.is c.self.invariant in
+    let held = subst (TilesAreHeld c.self.inside.grid) c.in-Bits-content.is c.self.invariant in
     let items = c.in-Bits-content.tiles.items in
     let cells = (arc_value c.in-Bits.plane).cells in
     let level-is =
@@ -28,7 +28,7 @@ invariant_of-self c =
 
 pub invariant_of-self-in-Grey8-content : goal.invariant_of-self-in-Grey8-content
 invariant_of-self-in-Grey8-content c =
-    let held = subst (IsHeld c.self.inside.grid) c.in-Grey8-content.is c.self.invariant in
+    let held = subst (TilesAreHeld c.self.inside.grid) c.in-Grey8-content.is c.self.invariant in
     let items = c.in-Grey8-content.tiles.items in
     let cells = (arc_value c.in-Grey8.plane).cells in
     let level-is =
@@ -45,7 +45,7 @@ invariant_of-self-in-Grey8-content c =
 
 pub invariant_of-self-in-Grey16-content : goal.invariant_of-self-in-Grey16-content
 invariant_of-self-in-Grey16-content c =
-    let held = subst (IsHeld c.self.inside.grid) c.in-Grey16-content.is c.self.invariant in
+    let held = subst (TilesAreHeld c.self.inside.grid) c.in-Grey16-content.is c.self.invariant in
     let items = c.in-Grey16-content.tiles.items in
     let cells = (arc_value c.in-Grey16.plane).cells in
     let level-is =

@@ -1,6 +1,0 @@
-use Rattle.std.proofs.Common.{◌≡◌, map, take}
-use Rattle.mw_core_planes.specs.declared.places.StepPlane.TheVariants.{Closed}
-use Rattle.mw_core_planes.proofs.places.closed.Given as goal
-
-abbrev pub invariant-loop-level : goal.invariant-loop-level
-invariant-loop-level l = l.places.items ≡ map Closed (take l.level-index l.levels)

@@ -1,5 +1,0 @@
-use Rattle.std.proofs.Common.{◌<◌}
-use Rattle.mw_rank_counts.proofs.places.inner_places.Given as goal
-
-abbrev pub invariant-loop-offset : goal.invariant-loop-offset
-invariant-loop-offset l = record { left : l.left < 65536; right : l.right < 65536 }
