@@ -89,7 +89,7 @@ def status_of(program, connections):
 
 
 def status_of_echo(connections):
-    """The same of a server in Python that only answers."""
+    """How many requests a second a server in Python answers that only answers."""
     with socket.create_server(("127.0.0.1", free_port())) as door:
         server = multiprocessing.Process(target=echo, args=(door, connections), daemon=True)
         server.start()

@@ -103,7 +103,7 @@ def unproved():
 
 
 def built():
-    """The same over what was proved."""
+    """Replays the sessions, and runs the Python tests that start the program, over what was proved."""
     status, count, said = replayed(BUILDS, False)
     print(said, end="", flush=True)
     return status or (0 if count else 1) or subprocess.run([*PYTHON, "program"], cwd=ROOT, check=False).returncode
@@ -289,7 +289,7 @@ def proofs():
     for it in (signal.SIGINT, signal.SIGTERM):
         signal.signal(it, signal.default_int_handler)
     with open(LOG, "w", encoding="utf-8", errors="replace") as log:
-        run = subprocess.Popen(["rt", "ci"], start_new_session=True, **how)
+        run = subprocess.Popen(["rt", "ci"], start_new_session=True, env=gate_times.one_job_a_check(), **how)
         try:
             status = followed(run, progress, log)
         except KeyboardInterrupt:

@@ -23,9 +23,13 @@ import subprocess
 import sys
 import time
 
+import prove
+
 TICKS = os.sysconf("SC_CLK_TCK")
 KINDS = ("proof", "tests", "edits")
 INTERVAL = 0.1
+# The most memory that a check takes, in bytes.
+MOST_MEMORY = 4 << 30
 
 
 def read(path):
@@ -109,10 +113,18 @@ def edits_of(name):
     return len([it for it in os.listdir(folder) if it.endswith(".edit")]) if os.path.isdir(folder) else 0
 
 
+def one_job_a_check():
+    """The environment in which `rt ci` gives each check one job, where memory holds a check on each processor. Else `rt` lends a check
+    the processors that no other waits for, and each job more reads the libraries once more."""
+    processors = len(os.sched_getaffinity(0))
+    has_room = processors * MOST_MEMORY <= prove.free_memory()
+    return {**({"RT_JOBS": str(processors)} if has_room else {}), **os.environ}
+
+
 def run_gate(names):
     """Runs the gate, or the part of it that proves some crates; its output goes on as it is. Returns the figures."""
     crates, began = listed(), time.monotonic()
-    run = subprocess.Popen(["rt", "ci", *names], stdout=sys.stderr)
+    run = subprocess.Popen(["rt", "ci", *names], stdout=sys.stderr, env=one_job_a_check())
     watch, ended = Watch(run.pid), 0
     while not ended:
         watch.look()

@@ -65,7 +65,7 @@ def one_by_one(library, chance):
 
 
 def side_by_side(library, chance):
-    """The same calls from four threads at once: each has to make what it made alone."""
+    """Calls from four threads at once: each has to make what it made alone."""
     writer = calls.Writer(chance)
     work = [writer.call() for _ in range(200)]
     alone, wrong = [calls.made(library, call) for call in work], []

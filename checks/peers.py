@@ -8,7 +8,7 @@ import struct
 GIVEN = b"LOAD f 19\nP2\n5 1\n9\n3 1 4 1 5\nELEMENT b 1 0 11\nP1\n3 1\n111\n"
 GIVEN_REPLIES = [b"OK 0\n", b"OK 1\n"]
 ERODED = b"P5\n5 1\n9\n" + bytes([1, 1, 1, 1, 1])
-# The same, an erosion of the one by the other, and what each request is answered.
+# Both given, an erosion of the one by the other, and what each request is answered.
 ERODE = GIVEN + b"RUN e ERODE f b\nFETCH e\n"
 REPLIES = [(b"OK 0\n", b""), (b"OK 1\n", b""), (b"OK 2\n", b""), (b"IMAGE 2 14\n", ERODED)]
 # The longest payload that a line may announce, and a picture that fills what sockets hold when it is asked for often enough.

@@ -125,17 +125,17 @@ ENDED = "the session was ended"
 
 
 class Entry(reference_model.Entry):
-    """An entry of the plain machine that can be killed for want of memory, too."""
+    """An entry of the reference model's machine that can be killed for want of memory, too."""
 
     def is_dead(self):
         return self.outcome == MEMORY or super().is_dead()
 
 
 class Session(reference_model.Session):
-    """The plain machine, with entries that are killed."""
+    """The machine of the reference model, with entries that are killed."""
 
     def copied(self):
-        """The same, to be gone on with in another way. Entries have the same values there."""
+        """This machine once more, to be gone on with in another way. Entries have the same values there."""
         other = Session()
         other.entries = [copy.copy(entry) for entry in self.entries]
         return other
@@ -147,7 +147,7 @@ class Session(reference_model.Session):
         return [t for t, entry in enumerate(self.entries) if entry.outcome == "PENDING"]
 
     def killed(self, t):
-        """The same where that entry finds no memory: what is to come of it dies as if it were cancelled."""
+        """This machine where that entry finds no memory: what is to come of it dies as if it were cancelled."""
         other = self.copied()
         other.cancel(other.entries[t].name)
         other.entries[t].outcome = MEMORY
@@ -172,7 +172,7 @@ def remembered(operator):
 
 
 def remember_all():
-    """Lets the plain machine remember what its operators made."""
+    """Lets the reference model's machine remember what its operators made."""
     reference_model.OPERATIONS.update((word, (elements, numbers, remembered(operator)))
                                   for word, (elements, numbers, operator) in list(reference_model.OPERATIONS.items()))
 

@@ -19,6 +19,7 @@ MODULES = {
     "test_memory_tests": ["files", "makers", "medians", "results", "sharing"],
     "test_core_tests": ["calls", "events", "owners", "results"],
     "test_direct_tests": ["memory"],
+    "test_geodesic_tests": ["memory"],
     "test_strips_tests": ["memory"],
     "test_pool_tests": ["refused"],
 }

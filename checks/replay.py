@@ -95,7 +95,7 @@ def replay(programs: list[str], is_once: bool) -> None:
 
 
 def trial() -> None:
-    """The same by a build that checks what it does and proves nothing. A case that writes too much for it is left out, and told."""
+    """Replays the stored sessions by a build that checks what it does and proves nothing. A case that writes too much for it is left out, and told."""
     sessions = [stored_sessions.stored(name) for name in stored_sessions.names()]
     small = [it for it in sessions if len(it.wanted) < MOST_TRIED]
     with tempfile.TemporaryDirectory() as folder:

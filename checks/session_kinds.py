@@ -73,7 +73,7 @@ def derived(depth: str) -> Callable[[], bytes]:
 
 
 def slopes(depth: str) -> Callable[[], bytes]:
-    """The same on flat parts, steps and peaks, where most differences are 0."""
+    """Openings, closings and differences on flat parts, steps and peaks, where most differences are 0."""
     def write() -> bytes:
         script, maxval = Script(), DEPTHS[depth]
         samples = by_place(90, 20, lambda x, y: (x // 9 + y // 4) * (maxval // 16) + (maxval // 16 if (x, y) == (70, 9) else 0))

@@ -128,7 +128,7 @@ class Soak:
                 print("  %d sessions after %.0f s" % (self.number, told - begun), flush=True)
 
     def to_the_end(self, seconds):
-        """The same within a time limit of its own."""
+        """Goes on for so many seconds, within a time limit of its own."""
         signal.signal(signal.SIGALRM, ring)
         signal.setitimer(signal.ITIMER_REAL, seconds + GRACE)
         try:

@@ -66,7 +66,7 @@ def given(chance, name, kind):
 
 
 def some_given(chance, name, kind):
-    """The same, of as many payloads as it takes."""
+    """The definition of a random image or element, with as many payloads tried as it takes."""
     while True:
         try:
             return given(chance, name, kind)
@@ -172,7 +172,7 @@ class Hand:
         return self.make(entry)
 
     def refused_payload(self, name, kind, code):
-        """The same kind of request with a payload that is refused by this code, if one is soon found."""
+        """A request of this kind with a payload that is refused by this code, if one is soon found."""
         for _ in range(200):
             payloads = Small(self.chance)
             payload, ox, oy = payloads.bitmap() if kind == "ELEMENT" else (payloads.file(), 0, 0)

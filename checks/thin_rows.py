@@ -14,8 +14,6 @@ import sys
 ROOT = os.path.dirname(os.path.dirname(os.path.realpath(__file__)))
 # What a row may name beside the crates that reach it.
 ALWAYS = ("mw_model", "mw_grid")
-# And what one row names, since the crate asks it itself: what is legal is decided by the crate of plans.
-ITSELF = {("mw_core_refusals", "mw_plan")}
 
 
 def rows_of(text):
@@ -56,7 +54,7 @@ def needless(rows_and_words):
     for name in [it for it in rows if it in libraries]:
         for entry in rows[name]:
             through = [it for it in rows[name] if entry in below[it]]
-            if entry not in ALWAYS and (name, entry) not in ITSELF and through:
+            if entry not in ALWAYS and through:
                 yield f"crates.txt: {name} need not name {entry}, which {through[0]} reaches"
 
 

@@ -66,7 +66,7 @@ class Reading:
 
 
 def _plain(array: NDArray[Any], dtype: Any) -> Samples:
-    """The same samples by rows, without gaps, aligned and in this machine's order of bytes."""
+    """These samples by rows, without gaps, aligned and in this machine's order of bytes."""
     return np.require(array, dtype, ["C_CONTIGUOUS", "ALIGNED"])
 
 

@@ -40,7 +40,7 @@ class Field(NamedTuple):
 
     @property
     def levels(self) -> Field:
-        """The same where sets are not taken: levels up to 1."""
+        """This field where sets are not taken: levels up to 1."""
         return self._replace(is_set=False)
 
     def __str__(self) -> str:

@@ -85,7 +85,7 @@ class Reply:
         return int(self.words[1]) if self.words[0] == "ERR" else None
 
     def checked(self, timeout: float | None = None) -> Reply:
-        """The same, where it is no refusal."""
+        """This reply, once it is there and where it is no refusal."""
         self.wait(timeout)
         if self.number is not None:
             raise refusal(self.number, self.asked)

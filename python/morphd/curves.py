@@ -226,7 +226,7 @@ class Spectrum:
         return "\n".join([*lines, self._mean, self.width_meaning, self.meaning])
 
     def _repr_html_(self) -> str:
-        """The same as a table, for notebooks."""
+        """The spectrum as a table, for notebooks."""
         rows = [f"<tr><td>{html.escape(width)}</td><td>{fall}</td></tr>" for width, fall in self._rows()]
         head = f"<tr><th>{self.shape} in {html.escape(self.unit)}</th><th>fall</th></tr>"
         told = html.escape(f"{self._mean}. {self.width_meaning} {self.meaning}")
@@ -348,8 +348,8 @@ def _of_family(field: Field, family: tuple[Footprint, ...], workers: int) -> tup
 
 
 def _by_openings(field: Field, footprint: Footprint, count: int, workers: int) -> Samples:
-    """The same where an array is cut: a volume is a sum, whose pieces cannot overlap as those of an image do, so it is taken
-    of whole openings, each made of the library's erosions and dilations."""
+    """Volumes and gains of openings where an array is cut. A volume is a sum, whose pieces cannot overlap as those of an image do,
+    so it is taken of whole openings, each made of the library's erosions and dilations."""
     found, eroded = [], field
     for size in range(count + 1):
         opened = eroded

@@ -163,7 +163,7 @@ class Footprint:
         return made
 
     def at(self, origin: Sequence[int]) -> Footprint:
-        """The same bitmap with its origin in another row and column."""
+        """This bitmap with its origin in another row and column."""
         return Footprint(self, origin)
 
     @cached_property

@@ -299,7 +299,7 @@ def read_by_the_model(payload):
 
 
 def read_here(payload):
-    """The same by the package."""
+    """What the package reads of a payload, or the number of its refusal."""
     try:
         made = Picture.of_file(payload)
     except Refused as refused:

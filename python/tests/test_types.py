@@ -267,7 +267,7 @@ def test_nan_and_masks_are_refused():
 
 
 def arrangements(image):
-    """The same samples in memory of many kinds."""
+    """Samples that are alike, in memory of many kinds."""
     rows, columns = image.shape
     wide = np.zeros((2 * rows, 3 * columns), image.dtype)
     wide[::2, ::3] = image

@@ -22,7 +22,7 @@ def serpent(side):
 
 
 def slanted(side):
-    """The same along diagonals, where pixels touch by their corners alone."""
+    """Corridors along diagonals, where pixels touch by their corners alone."""
     rows, least, most = blank(side), 2, side - 3
     for y in range(least, most + 1):
         for x in range(least, most + 1):

@@ -12,6 +12,8 @@ use Rattle.mw_session.specs.mw_wire.Faults.{fault_line}
 use Rattle.mw_session.specs.mw_wire.Writes.{CutsShort}
 use Rattle.mw_session.specs.mw_wire.declared.fault.SessionFault.{SessionFault}
 use Rattle.mw_session.specs.mw_wire.declared.fault.SessionFault.TheVariants as fault
+use Rattle.mw_session.specs.mw_wire.declared.sink.Sink.{Sink}
+use Rattle.mw_session.specs.mw_wire.declared.source.Source.{Source}
 use Rattle.mw_session.specs.mw_wire.Rooms.{LacksRoom}
 use Rattle.mw_session.specs.Runs.{Ran}
 use Rattle.mw_session.specs.Tallies.{AreReplies, has_refusal, line_behind}
@@ -27,6 +29,18 @@ pub record SessionEnds : Type 0 where
   pub write_failed : Bool
   pub told : Option (List ℕ)
   pub tell_failed : Bool
+
+-- what is seen of this reader, writer and writer of faults, by what is known of what each has left or holds
+abbrev pub ends_of : {R W F : Type 0} → (R → Option (List ℕ)) → (W → Option (List ℕ)) → (F → Option (List ℕ)) → Source R → Sink W → Sink F → SessionEnds
+ends_of left written told source sink faults = record {
+  left = left source.inner;
+  reads = source.reads;
+  read_failed = source.failed;
+  written = written sink.inner;
+  write_failed = sink.failed;
+  told = told faults.inner;
+  tell_failed = faults.failed;
+}
 
 -- the exit status of a session that came to this
 abbrev pub end_status : Result End SessionFault → ℕ
@@ -91,7 +105,7 @@ pub record HasReplied (turns : List Turn) (state : Machine) (text : List ℕ) (r
 -- A session was served as a batch serves it; the status is that of a batch, and 3 in the place of 0 where one of the replies is a refusal.
 abbrev pub ServedStrictly : SessionEnds → SessionEnds → ℕ → Type 0
 ServedStrictly old new status =
-    (plain : ℕ) × (served : Served old new plain) × (refused : Bool) × (plain ≡ 0 → HasReplied served.turns served.state served.text refused) × (status ≡ strict_status plain refused)
+    (ended : ℕ) × (served : Served old new ended) × (refused : Bool) × (ended ≡ 0 → HasReplied served.turns served.state served.text refused) × (status ≡ strict_status ended refused)
 
 -- There was no memory to begin: nothing was read or written.
 pub record Unserved (old new : SessionEnds) (status : ℕ) : Type 0 where

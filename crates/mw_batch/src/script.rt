@@ -5,7 +5,7 @@ ghost use Rattle.mw_model.specs.Machine.{start_state};
 ghost use Rattle.mw_model.specs.Stands.{StandsFor, running_count};
 ghost use Rattle.mw_grid.specs.Grids.{IsTileSide};
 ghost use Rattle.mw_session.specs.mw_wire.Failures.{IsUnread};
-ghost use Rattle.mw_batch.specs.Batches.{HasReplied, Served, ServedStrictly, SessionEnds, Unserved};
+ghost use Rattle.mw_batch.specs.Batches.{HasReplied, Served, ServedStrictly, SessionEnds, Unserved, ends_of};
 
 use crate::told::{end_line, strict_status};
 use mw_session::wire::{Sink, Source, send, tell};
@@ -41,8 +41,8 @@ fn run_on<R: Read, W: Write, F: Write, T: Threads + Sync>(
     requires log { tally.old.core.log ≡ [] }
     requires first { tally.old.line ≡ 1 }
     requires clear { tally.old.refused ≡ false }
-    ensures { let old : SessionEnds = record { left = R.remaining source.old.inner; reads = source.old.reads; read_failed = source.old.failed; written = W.contents sink.old.inner; write_failed = sink.old.failed; told = F.contents faults.old.inner; tell_failed = faults.old.failed } in
-        let new : SessionEnds = record { left = R.remaining source.new.inner; reads = source.new.reads; read_failed = source.new.failed; written = W.contents sink.new.inner; write_failed = sink.new.failed; told = F.contents faults.new.inner; tell_failed = faults.new.failed } in
+    ensures { let old : SessionEnds = ends_of R.remaining W.contents F.contents source.old sink.old faults.old in
+        let new : SessionEnds = ends_of R.remaining W.contents F.contents source.new sink.new faults.new in
         (served : Served old new result) × (result ≡ 0 → HasReplied served.turns served.state served.text tally.new.refused) }
 {
     match run_counted(crew, source, sink, tally, &mut First) {
@@ -72,8 +72,8 @@ pub fn batch<R: Read, W: Write, F: Write, T: Threads + Sync>(
     requires side { IsTileSide side }
     requires source_fresh { IsUnread source.old.failed source.old.reads }
     requires sink_clear { sink.old.failed ≡ false }
-    ensures { let old : SessionEnds = record { left = R.remaining source.old.inner; reads = source.old.reads; read_failed = source.old.failed; written = W.contents sink.old.inner; write_failed = sink.old.failed; told = F.contents faults.old.inner; tell_failed = faults.old.failed } in
-        let new : SessionEnds = record { left = R.remaining source.new.inner; reads = source.new.reads; read_failed = source.new.failed; written = W.contents sink.new.inner; write_failed = sink.new.failed; told = F.contents faults.new.inner; tell_failed = faults.new.failed } in
+    ensures { let old : SessionEnds = ends_of R.remaining W.contents F.contents source.old sink.old faults.old in
+        let new : SessionEnds = ends_of R.remaining W.contents F.contents source.new sink.new faults.new in
         Served old new result ⊎ Unserved old new result }
 {
     let Ok(core) = Core::new(crew.alloc, side) else {
@@ -94,8 +94,8 @@ pub fn strict_batch<R: Read, W: Write, F: Write, T: Threads + Sync>(
     requires side { IsTileSide side }
     requires source_fresh { IsUnread source.old.failed source.old.reads }
     requires sink_clear { sink.old.failed ≡ false }
-    ensures { let old : SessionEnds = record { left = R.remaining source.old.inner; reads = source.old.reads; read_failed = source.old.failed; written = W.contents sink.old.inner; write_failed = sink.old.failed; told = F.contents faults.old.inner; tell_failed = faults.old.failed } in
-        let new : SessionEnds = record { left = R.remaining source.new.inner; reads = source.new.reads; read_failed = source.new.failed; written = W.contents sink.new.inner; write_failed = sink.new.failed; told = F.contents faults.new.inner; tell_failed = faults.new.failed } in
+    ensures { let old : SessionEnds = ends_of R.remaining W.contents F.contents source.old sink.old faults.old in
+        let new : SessionEnds = ends_of R.remaining W.contents F.contents source.new sink.new faults.new in
         ServedStrictly old new result ⊎ Unserved old new result }
 {
     let Ok(core) = Core::new(crew.alloc, side) else {
@@ -103,6 +103,6 @@ pub fn strict_batch<R: Read, W: Write, F: Write, T: Threads + Sync>(
         return 1;
     };
     let mut tally = Tally::new(core);
-    let plain = run_on(crew, source, sink, faults, &mut tally);
-    strict_status(plain, tally.refused)
+    let status = run_on(crew, source, sink, faults, &mut tally);
+    strict_status(status, tally.refused)
 }

@@ -35,9 +35,9 @@ pub(crate) fn end_line(line: u64, code: Code) -> ReplyLine
     text
 }
 
-/// The exit status of a strict batch, where a batch has the plain one.
-pub(crate) fn strict_status(plain: u8, refused: bool) -> u8
-    ensures { result ≡ strict_status plain refused }
+/// The exit status of a strict batch, where a batch that is not strict has this one.
+pub(crate) fn strict_status(status: u8, refused: bool) -> u8
+    ensures { result ≡ strict_status status refused }
 {
-    if plain == 0 && refused { 3 } else { plain }
+    if status == 0 && refused { 3 } else { status }
 }

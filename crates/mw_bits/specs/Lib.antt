@@ -1,4 +1,5 @@
 pub mod Layouts
+pub mod Tiles
 pub mod Uniform
 pub mod Waiting
 -- what lower crates offer

@@ -1,15 +1,16 @@
 //! Extrema under a box. The set is spread over rows of so many words, with neutral pixels around it; each bit becomes the
 //! extremum of the box's columns from it on, and then that of the box's rows, both by doubling. So a side of k pixels
 //! takes about log2(k) passes of shifted words over all rows at once.
-ghost use Rattle.std.specs.Prelude.{◌≡◌, ℕ, ◌+◌, ◌-◌, ◌*◌, ◌/◌, ◌<◌, ◌≤◌, ◌^◌, pos, negsuc, ◌+ℤ◌, ◌≤ℤ◌, length, fold, slice_index_or, vec_len, IfOk, OnOk};
+ghost use Rattle.std.specs.Prelude.{◌≡◌, ℕ, ◌+◌, ◌-◌, ◌*◌, ◌/◌, ◌<◌, ◌≤◌, ◌^◌, pos, negsuc, ◌+ℤ◌, ◌≤ℤ◌, length, slice_index_or, vec_len, IfOk, OnOk};
 ghost use Rattle.mw_model.specs.declared.limits.TheConstants.{FAR_LIMIT};
 ghost use Rattle.mw_model.specs.Rectangles.{box_offsets};
-ghost use Rattle.mw_model.specs.Rasters.{Raster, raster, cell_at, seen_under};
+ghost use Rattle.mw_model.specs.Rasters.{Raster, cell_at};
 ghost use Rattle.mw_model.specs.Windows.{seen_at};
 ghost use Rattle.mw_offset.specs.mw_tile.Windows.{IsWindow};
-ghost use Rattle.mw_offset.specs.mw_lane.Shifted.{merge_at};
-ghost use Rattle.mw_offset.specs.mw_line.Extrema.{over, IsSlidingExtremum};
+ghost use Rattle.mw_offset.specs.mw_line.Cells.{merged_cell};
+ghost use Rattle.mw_offset.specs.mw_line.Extrema.{over_box, IsSlidingExtremum};
 ghost use Rattle.mw_offset.specs.mw_pixel_words.Packed.{bit_of, stride_of, IsPacked};
+ghost use Rattle.mw_bits.specs.Tiles.{WordsHoldExtrema};
 
 use crate::WordExtremum;
 use crate::held::plane_of;
@@ -56,7 +57,7 @@ fn slide_box<E: WordExtremum>(
     requires room { (across ≤ 64 * wide) × (down ≤ high) }
     requires size { length cells.old ≡ high * wide + 1 }
     requires few { length cells.old < 2 ^ 58 }
-    ensures { (x y : ℕ) → x + across ≤ 64 * wide → y + down ≤ high → bit_of cells.new (y * (64 * wide) + x) ≡ over E.merge (λ j. over E.merge (λ i. bit_of cells.old ((y + j) * (64 * wide) + (x + i))) 0 (across - 1)) 0 (down - 1) }
+    ensures { (x y : ℕ) → x + across ≤ 64 * wide → y + down ≤ high → bit_of cells.new (y * (64 * wide) + x) ≡ over_box E.merge (λ i j. bit_of cells.old (j * (64 * wide) + i)) across down x y }
 {
     slide_words::<E>(cells, 1, across);
     slide_words::<E>(cells, 64 * wide, down);
@@ -75,7 +76,7 @@ fn box_words<E: WordExtremum>(
     requires right { looked.column ≤ℤ pos FAR_LIMIT }
     requires near { looked.row ≤ℤ pos FAR_LIMIT }
     ensures packed { IfOk result (λ v. IsPacked tile.width tile.height v.items) }
-    ensures cells { IfOk result (λ v. (x y : ℕ) → x < tile.width → y < tile.height → bit_of v.items (y * (64 * stride_of tile.width) + x) ≡ over E.merge (λ j. over E.merge (λ i. merge_at E.merge (E.neutral_of 1) (cell_at (raster set.now.place.width set.now.place.height set.now.cells) (looked.column +ℤ pos (x + i)) (looked.row +ℤ pos (y + j)))) 0 (looked.across - 1)) 0 (looked.down - 1)) }
+    ensures cells { IfOk result (λ v. (x y : ℕ) → x < tile.width → y < tile.height → bit_of v.items (y * (64 * stride_of tile.width) + x) ≡ over_box E.merge (merged_cell E.merge (E.neutral_of 1) set.now looked.column looked.row) looked.across looked.down x y) }
 {
     let across = looked.across;
     let down = looked.down;
@@ -107,7 +108,7 @@ fn rectangle_words<E: WordExtremum>(
     tile: Rect,
 ) -> Result<Vec<u64>, NoMemory>
     ensures packed { IfOk result (λ v. IsPacked tile.width tile.height v.items) }
-    ensures cells { IfOk result (λ v. (x y : ℕ) → x < tile.width → y < tile.height → bit_of v.items (y * (64 * stride_of tile.width) + x) ≡ fold E.merge (E.neutral_of 1) (seen_under (seen_at set.now) (box_offsets offsets) (tile.x + x) (tile.y + y))) }
+    ensures cells { IfOk result (λ v. WordsHoldExtrema E.merge (E.neutral_of 1) (seen_at set.now) (box_offsets offsets) tile v.items) }
 {
     let place = set.place();
     let across = seen_across(offsets, tile, place);
@@ -139,8 +140,8 @@ pub fn rectangle<E: WordExtremum>(
     ensures over_frame { IfOk result (λ r. (f : Raster ℕ) → IsWindow set.now f (box_offsets offsets) tile → IsSlidingExtremum E.merge (E.neutral_of 1) (cell_at f) (box_offsets offsets) tile r) }
 {
     if let Some(pixel) = settled_box::<E>(set, offsets, tile) {
-        let plain = Words::filled(alloc, tile.width, tile.height, pixel)?;
-        return Ok(Plane::of_words(plain));
+        let uniform = Words::filled(alloc, tile.width, tile.height, pixel)?;
+        return Ok(Plane::of_words(uniform));
     }
     let words = rectangle_words::<E>(alloc, set, offsets, tile)?;
     Ok(plane_of(tile.width, tile.height, words))

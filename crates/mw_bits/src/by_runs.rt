@@ -5,16 +5,15 @@
 ghost use Rattle.std.specs.Prelude.{◌≡◌, ℕ, ◌+◌, ◌-◌, ◌*◌, ◌/◌, ◌<◌, ◌≤◌, ◌^◌, ℤ, pos, negsuc, ◌+ℤ◌, ◌-ℤ◌, ◌≤ℤ◌, length, fold, flat_map, slice_index_or, vec_len, IfOk, IfSome, IsTrue};
 ghost use Rattle.std.specs.List.{AllByRecursion};
 ghost use Rattle.mw_model.specs.Rectangles.{nonnegative};
-ghost use Rattle.mw_model.specs.Rasters.{seen_under};
 ghost use Rattle.mw_model.specs.Windows.{seen_at};
-ghost use Rattle.mw_offset.specs.mw_line.Extrema.{strided};
 ghost use Rattle.mw_offset.specs.mw_element_runs.declared.runs.Run.{Run};
 ghost use Rattle.mw_offset.specs.mw_element_runs.Runs.{run_offsets, start_of, RunIsInside, IsWider, RunHasRoom, two_parts, gather};
-ghost use Rattle.mw_offset.specs.MergedAt.{sized_below};
-ghost use Rattle.mw_offset.specs.mw_pixel_words.Packed.{bit_of, stride_of, IsPacked};
+ghost use Rattle.mw_offset.specs.MergedAt.{run_extremum, sized_below};
+ghost use Rattle.mw_offset.specs.mw_pixel_words.Packed.{bit_of, IsPacked};
 ghost use Rattle.mw_bits_rows.specs.Rows.{laid_bits};
 ghost use Rattle.mw_bits.specs.Waiting.{with_waiting};
 ghost use Rattle.mw_bits.specs.Layouts.{AreNear, ExtentIsNear};
+ghost use Rattle.mw_bits.specs.Tiles.{WordsHoldExtrema};
 
 use crate::WordExtremum;
 use crate::sizes::{longest_of, next_size};
@@ -129,7 +128,7 @@ fn combine_runs<E: WordExtremum>(
     requires within { length counts.now ≤ 64 * (length cells.old - 1) + 1 }
     requires some { 0 < length cells.old }
     requires few { length cells.old < 2 ^ 57 }
-    ensures { (n : ℕ) → ((q : ℕ) → q < 64 * length out.old → bit_of out.old q ≡ n) → (q : ℕ) → q < 64 * length out.old → bit_of out.new q ≡ gather E.merge n (λ r. strided E.merge (laid_bits cells.old) n 1 (r.count - 1) (start_of laid.extent laid.wide r + q)) runs.now }
+    ensures { (n : ℕ) → ((q : ℕ) → q < 64 * length out.old → bit_of out.old q ≡ n) → (q : ℕ) → q < 64 * length out.old → bit_of out.new q ≡ gather E.merge n (run_extremum E.merge (laid_bits cells.old) n laid.extent laid.wide q) runs.now }
 {
     let mut sizes = next_size(counts, 1, cells.len(), out.len());
     combine_sized::<E>(runs, laid, sizes, cells, out);
@@ -192,7 +191,7 @@ pub(crate) fn extremum_by_runs<E: WordExtremum>(
     requires small { (tile.width ≤ 2 ^ 31) × (tile.height ≤ 2 ^ 31) }
     requires near { ExtentIsNear extent }
     ensures packed { IfOk result (λ v. IsPacked tile.width tile.height v.items) }
-    ensures cells { IfOk result (λ v. (x y : ℕ) → x < tile.width → y < tile.height → bit_of v.items (y * (64 * stride_of tile.width) + x) ≡ fold E.merge (E.neutral_of 1) (seen_under (seen_at set.now) (flat_map run_offsets runs.now) (tile.x + x) (tile.y + y))) }
+    ensures cells { IfOk result (λ v. WordsHoldExtrema E.merge (E.neutral_of 1) (seen_at set.now) (flat_map run_offsets runs.now) tile v.items) }
 {
     let place = set.place();
     let stride = stride(tile.width);

@@ -9,7 +9,8 @@ ghost use Rattle.mw_model.specs.Windows.{seen_at};
 ghost use Rattle.mw_offset.specs.mw_tile.Windows.{IsWindow};
 ghost use Rattle.mw_offset.specs.mw_line.Extrema.{IsSlidingExtremum};
 ghost use Rattle.mw_offset.specs.mw_element_runs.Runs.{AreEitherWay, IsRun};
-ghost use Rattle.mw_offset.specs.mw_pixel_words.Packed.{bit_of, stride_of, IsPacked};
+ghost use Rattle.mw_offset.specs.mw_pixel_words.Packed.{bit_of, IsPacked};
+ghost use Rattle.mw_bits.specs.Tiles.{WordsHoldExtrema};
 
 use crate::WordExtremum;
 use crate::by_runs::{extremum_by_runs, is_near};
@@ -51,7 +52,7 @@ fn extremum_by_offsets<E: WordExtremum>(
     tile: Rect,
 ) -> Result<Vec<u64>, NoMemory>
     ensures packed { IfOk result (λ v. IsPacked tile.width tile.height v.items) }
-    ensures cells { IfOk result (λ v. (x y : ℕ) → x < tile.width → y < tile.height → bit_of v.items (y * (64 * stride_of tile.width) + x) ≡ fold E.merge (E.neutral_of 1) (seen_under (seen_at set.now) offsets.now (tile.x + x) (tile.y + y))) }
+    ensures cells { IfOk result (λ v. WordsHoldExtrema E.merge (E.neutral_of 1) (seen_at set.now) offsets.now tile v.items) }
 {
     let stride = stride(tile.width);
     let mut cells = repeated(alloc, tile.height as usize * stride, E::neutral_word())?;
@@ -78,7 +79,7 @@ fn extremum_words<E: WordExtremum>(
     requires either { AreEitherWay offsets.now runs.now }
     requires runs { AllByRecursion IsRun runs.now }
     ensures packed { IfOk result (λ v. IsPacked tile.width tile.height v.items) }
-    ensures cells { IfOk result (λ v. (x y : ℕ) → x < tile.width → y < tile.height → bit_of v.items (y * (64 * stride_of tile.width) + x) ≡ fold E.merge (E.neutral_of 1) (seen_under (seen_at set.now) offsets.now (tile.x + x) (tile.y + y))) }
+    ensures cells { IfOk result (λ v. WordsHoldExtrema E.merge (E.neutral_of 1) (seen_at set.now) offsets.now tile v.items) }
 {
     if has_layout(tile) {
         if let Some(extent) = extent_of(runs) {
@@ -108,8 +109,8 @@ pub fn extremum_of_runs<E: WordExtremum>(
     ensures over_frame { IfOk result (λ r. (f : Raster ℕ) → IsWindow set.now f offsets.now tile → IsSlidingExtremum E.merge (E.neutral_of 1) (cell_at f) offsets.now tile r) }
 {
     if let Some(pixel) = settled::<E>(set, offsets, runs, tile) {
-        let plain = Words::filled(alloc, tile.width, tile.height, pixel)?;
-        return Ok(Plane::of_words(plain));
+        let uniform = Words::filled(alloc, tile.width, tile.height, pixel)?;
+        return Ok(Plane::of_words(uniform));
     }
     let words = extremum_words::<E>(alloc, set, offsets, runs, tile)?;
     Ok(plane_of(tile.width, tile.height, words))

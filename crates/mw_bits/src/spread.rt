@@ -1,8 +1,8 @@
 //! A set in rows of so many words, with neutral pixels around it.
 ghost use Rattle.std.specs.Prelude.{◌≡◌, ℕ, ◌+◌, ◌*◌, ◌<◌, ◌≤◌, ◌^◌, negsuc, pos, ◌+ℤ◌, ◌≤ℤ◌, length, vec_len, IfOk, IsTrue};
 ghost use Rattle.mw_model.specs.declared.limits.TheConstants.{FAR_LIMIT};
-ghost use Rattle.mw_model.specs.Rasters.{raster, cell_at};
 ghost use Rattle.mw_offset.specs.mw_lane.Shifted.{merge_at};
+ghost use Rattle.mw_offset.specs.mw_line.Cells.{window_cell, merged_cell};
 ghost use Rattle.mw_offset.specs.mw_pixel_words.Packed.{bit_of, stride_of};
 
 use crate::WordExtremum;
@@ -30,7 +30,7 @@ pub(crate) fn spread_rows<E: WordExtremum>(
     requires low { negsuc FAR_LIMIT ≤ℤ column }
     requires far { column ≤ℤ pos FAR_LIMIT }
     requires near { row ≤ℤ pos FAR_LIMIT }
-    ensures { (x y : ℕ) → x < 64 * wide → y < high → bit_of out.new (y * (64 * wide) + x) ≡ merge_at E.merge (bit_of out.old (y * (64 * wide) + x)) (cell_at (raster set.now.place.width set.now.place.height set.now.cells) (column +ℤ pos x) (row +ℤ pos y)) }
+    ensures { (x y : ℕ) → x < 64 * wide → y < high → bit_of out.new (y * (64 * wide) + x) ≡ merged_cell E.merge (bit_of out.old (y * (64 * wide) + x)) set.now column row x y }
 {
     for y in 0..high {
         let start = y * wide;
@@ -55,7 +55,7 @@ fn has_rows(set: &Window<Bit>, column: i64, row: i64, wide: usize, high: usize) 
 fn copy_held<E: WordExtremum>(set: &Window<Bit>, row: usize, high: usize, out: &mut [u64])
     requires inside { row + high ≤ set.now.place.height }
     requires room { high * stride_of set.now.place.width ≤ length out.old }
-    ensures { (x y : ℕ) → x < 64 * stride_of set.now.place.width → y < high → bit_of out.new (y * (64 * stride_of set.now.place.width) + x) ≡ merge_at E.merge (E.neutral_of 1) (cell_at (raster set.now.place.width set.now.place.height set.now.cells) (pos x) (pos (row + y))) }
+    ensures { (x y : ℕ) → x < 64 * stride_of set.now.place.width → y < high → bit_of out.new (y * (64 * stride_of set.now.place.width) + x) ≡ merge_at E.merge (E.neutral_of 1) (window_cell set.now (pos x) (pos (row + y))) }
 {
     let width = set.place().width;
     let wide = stride(width);
@@ -79,7 +79,7 @@ pub fn spread<E: WordExtremum>(
     requires far { column ≤ℤ pos FAR_LIMIT }
     requires near { row ≤ℤ pos FAR_LIMIT }
     ensures size { IfOk result (λ v. vec_len v ≡ high * wide + 1) }
-    ensures cells { IfOk result (λ v. (x y : ℕ) → x < 64 * wide → y < high → bit_of v.items (y * (64 * wide) + x) ≡ merge_at E.merge (E.neutral_of 1) (cell_at (raster set.now.place.width set.now.place.height set.now.cells) (column +ℤ pos x) (row +ℤ pos y))) }
+    ensures cells { IfOk result (λ v. (x y : ℕ) → x < 64 * wide → y < high → bit_of v.items (y * (64 * wide) + x) ≡ merged_cell E.merge (E.neutral_of 1) set.now column row x y) }
 {
     let mut cells = repeated(alloc, high * wide + 1, E::neutral_word())?;
     if has_rows(set, column, row, wide, high) {

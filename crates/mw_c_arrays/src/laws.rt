@@ -1,4 +1,4 @@
-//! What operators make at one place, in plain words: each law is the contract of an empty function.
+//! What operators make at one place, in words of one pixel: each law is the contract of an empty function.
 
 ghost use Rattle.std.specs.Prelude.{◌≡◌, ℕ, ◌+◌, ◌-◌, ◌*◌, ◌<◌, List, length, min, nat_le, if◌then◌else◌, slice_index};
 ghost use Rattle.mw_model.specs.declared.offsets.Offset.{Offset};

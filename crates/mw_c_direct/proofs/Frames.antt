@@ -100,13 +100,13 @@ first_maxval place (f ∷ fs) = refl
 -- of each other step its plane
 pub plane_is_made : (image : Picture) (planes : List (Option Picture)) (p : Planned) (t : WindowTask) → IsReady image planes p → IsWholeTask image planes p t → is_sum p.step ≡ false
     → tile_made t ≡ plane_of p.step (sources_kept image planes p) image.width image.height
-plane_is_made image planes p t ready done plain =
+plane_is_made image planes p t ready done unsummed =
     let fs = sources_kept image planes p in
     let m = image.width in
     let n = image.height in
     let place = place_read p.step m n (rect 0 0 m n) in
     let cut = are_cut image planes p t.windows ready done.windows in
-    let samples : made_of_windows t.step t.windows t.rect ≡ (plane_of p.step fs m n).samples = done_cut image planes p t ready done ∙ whole_cells p.step fs m n ∙ rw plain refl in
+    let samples : made_of_windows t.step t.windows t.rect ≡ (plane_of p.step fs m n).samples = done_cut image planes p t ready done ∙ whole_cells p.step fs m n ∙ rw unsummed refl in
     let kind : (window_at t.windows 0).kind ≡ (slice_index_or fs 0 no_picture).kind = ap (λ (ws : List SourceWindow). (window_at ws 0).kind) cut.cut ∙ first_kind place fs in
     let top : (window_at t.windows 0).maxval ≡ (slice_index_or fs 0 no_picture).maxval = ap (λ (ws : List SourceWindow). (window_at ws 0).maxval) cut.cut ∙ first_maxval place fs in
     ap (λ (ns : List ℕ). picture (kind_of_step t.step (window_at t.windows 0).kind) t.rect.width t.rect.height (maxval_of_step t.step (window_at t.windows 0).maxval) ns) samples

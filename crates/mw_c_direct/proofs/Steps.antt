@@ -169,8 +169,8 @@ another made k i lt unmade e =
 
 -- a step that makes no number makes a plane
 plane_there : (s : Planned) (g : Picture) (kept : List (Option Picture)) (k : ℕ) (made : Product) → k < length kept → IsProduct s.step g made → is_sum s.step ≡ false → IsSome (kept_at (put kept k made) k)
-plane_there s g kept k (product.Plane f) lt is plain = subst (λ (o : Option Picture). IsSome o) (sym (set_here kept k (Some f) lt)) refl
-plane_there s g kept k (product.Number n) lt is plain = let sums = is.0 in absurd cc
+plane_there s g kept k (product.Plane f) lt is unsummed = subst (λ (o : Option Picture). IsSome o) (sym (set_here kept k (Some f) lt)) refl
+plane_there s g kept k (product.Number n) lt is unsummed = let sums = is.0 in absurd cc
 
 -- Step k was made by a run, with this product.
 pub record HasMade (plan : Plan) (image : Picture) (flags : List Bool) (kept : List (Option Picture)) (k : ℕ) (made : Product) : Type 0 where
@@ -193,18 +193,18 @@ put_true plan image flags kept k (product.Plane f) has j =
 
 put_read : (plan : Plan) (image : Picture) (flags : List Bool) (kept : List (Option Picture)) (k : ℕ) (made : Product) (ss : List Source) → HasMade plan image flags kept k made
     → AllByRecursion (IsPlaneSource plan) ss → AllByRecursion (IsThereIfMade flags kept) ss → AllByRecursion (IsThereIfMade (slice_set flags k true) (put kept k made)) ss
-put_read plan image flags kept k made [] has plain there = tt
-put_read plan image flags kept k made (FromInput i ∷ ss) has plain there = (tt, put_read plan image flags kept k made ss has plain.1 there.1)
-put_read plan image flags kept k made (FromStep i ∷ ss) has plain there = (
+put_read plan image flags kept k made [] has unsummed there = tt
+put_read plan image flags kept k made (FromInput i ∷ ss) has unsummed there = (tt, put_read plan image flags kept k made ss has unsummed.1 there.1)
+put_read plan image flags kept k made (FromStep i ∷ ss) has unsummed there = (
   λ is. elim (cases_eq i k) [
     | inl at ↦
         let count = has.can.run.count in
         let within = has.can.within in
         subst (λ (t : ℕ). IsSome (kept_at (put kept k made) t)) (sym at)
-        (plane_there (step_in plan k) (plane_at plan image k) kept k made (omega arith) has.product (subst (λ (t : ℕ). is_sum (step_in plan t).step ≡ false) at plain.0))
+        (plane_there (step_in plan k) (plane_at plan image k) kept k made (omega arith) has.product (subst (λ (t : ℕ). is_sum (step_in plan t).step ≡ false) at unsummed.0))
     | inr other ↦ subst (λ (o : Option Picture). IsSome o) (sym (put_there kept k i made other)) (there.0 (sym (flag_there flags k i other) ∙ is))
   ],
-  put_read plan image flags kept k made ss has plain.1 there.1,
+  put_read plan image flags kept k made ss has unsummed.1 there.1,
 )
 
 second_true : (b t : Bool) → (b || t) ≡ true → b ≡ false → t ≡ true
@@ -305,9 +305,9 @@ number_told s g made n told is = subst (IsNumberOf s.step g) (sym told) (go made
 -- the numbers, once a step is made that makes none
 pub numbers_on : (plan : Plan) (image : Picture) (k : ℕ) (numbers : List ℕ) → k < length plan → is_sum (step_in plan k).step ≡ false → numbers ≡ numbers_from (take k plan) (planes_on plan image)
     → numbers ≡ numbers_from (take (k + 1) plan) (planes_on plan image)
-numbers_on plan image k numbers lt plain is =
+numbers_on plan image k numbers lt unsummed is =
     is ∙ sym (numbers_more plan (planes_on plan image) k lt (length-planes plan (image ∷ []) image.width image.height)
-    ∙ ap (λ (b : Bool). numbers_from (take k plan) (planes_on plan image) ++ with_number b (sum (plane_at plan image k).samples) []) plain
+    ∙ ap (λ (b : Bool). numbers_from (take k plan) (planes_on plan image) ++ with_number b (sum (plane_at plan image k).samples) []) unsummed
     ∙ append-nil (numbers_from (take k plan) (planes_on plan image)))
 
 pub one_number : (plan : Plan) (image : Picture) (k n : ℕ) (numbers : List ℕ) → k < length plan → IsNumberOf (step_in plan k).step (plane_at plan image k) (Some n) → numbers ≡ numbers_from (take k plan) (planes_on plan image)

@@ -58,20 +58,20 @@ one_cut s f r ws strip is = record {
   cut = is;
 }
 
-made_plain : (s : PlanStep) (fs : List Picture) (m n : ℕ) (r : Rect) → is_sum s ≡ false → IsWithin r m n → made_of_planes s fs r ≡ cells_in r (sample (plane_of s fs m n))
-made_plain s fs m n r plain within =
+made_unsummed : (s : PlanStep) (fs : List Picture) (m n : ℕ) (r : Rect) → is_sum s ≡ false → IsWithin r m n → made_of_planes s fs r ≡ cells_in r (sample (plane_of s fs m n))
+made_unsummed s fs m n r unsummed within =
     let first = slice_index_or fs 0 no_picture in
     let value : ℕ → ℕ → ℕ = step_at s first.maxval (sight_of fs 0) (sight_of fs 1) (sight_of fs 2) in
     let across = within.across in
     let down = within.down in
-    ap (λ (b : Bool). if b then sum (cells_in r value) ∷ [] else cells_in r value) plain
+    ap (λ (b : Bool). if b then sum (cells_in r value) ∷ [] else cells_in r value) unsummed
     ∙ cells_in_same r value (sample (plane_of s fs m n)) (λ i j left top. sym (sample-drawn (kind_of_step s first.kind) m n (maxval_of_step s first.maxval) value (r.x + i) (r.y + j) (omega arith) (omega arith)))
 
 pub one_made : (s : PlanStep) (f : Picture) (r : Rect) (ws : List SourceWindow) → is_sum s ≡ false → IsStrip r f → ws ≡ window_of (place_read s f.width f.height r) f ∷ [] → made_picture s ws r ≡ part_of (plane_of s (f ∷ []) f.width f.height) r
-one_made s f r ws plain strip is =
+one_made s f r ws unsummed strip is =
     ap (λ (vs : List SourceWindow). made_picture s vs r) is
     ∙ ap (λ (ns : List ℕ). picture (kind_of_step s f.kind) r.width r.height (maxval_of_step s f.maxval) ns)
-    (made_of_cut s (f ∷ []) f.width f.height r own (one_cut s f r own strip refl) ∙ made_plain s (f ∷ []) f.width f.height r plain (strip_inside r f strip))
+    (made_of_cut s (f ∷ []) f.width f.height r own (one_cut s f r own strip refl) ∙ made_unsummed s (f ∷ []) f.width f.height r unsummed (strip_inside r f strip))
   where
     own : List SourceWindow
     own = window_of (place_read s f.width f.height r) f ∷ []
@@ -133,11 +133,11 @@ part_minus a b p q r alike strip first second =
 
 -- ---- rules
 
-rule_plain : (rule : Rule) → is_sum (step_of rule) ≡ false
-rule_plain (rules.Least e) = refl
-rule_plain (rules.Greatest e) = refl
-rule_plain (rules.Nth e k) = refl
-rule_plain (rules.AtLeast k) = refl
+rule_unsummed : (rule : Rule) → is_sum (step_of rule) ≡ false
+rule_unsummed (rules.Least e) = refl
+rule_unsummed (rules.Greatest e) = refl
+rule_unsummed (rules.Nth e k) = refl
+rule_unsummed (rules.AtLeast k) = refl
 
 rule_sources : (rule : Rule) → 1 ≡ source_count (step_of rule)
 rule_sources (rules.Least e) = refl
@@ -151,8 +151,8 @@ rule_kinds (rules.Greatest e) ws = tt
 rule_kinds (rules.Nth e k) ws = tt
 rule_kinds (rules.AtLeast k) ws = tt
 
-pub plain_step : (rule : Rule) (s : PlanStep) → s ≡ step_of rule → is_sum s ≡ false
-plain_step rule s is = ap is_sum is ∙ rule_plain rule
+pub unsummed_step : (rule : Rule) (s : PlanStep) → s ≡ step_of rule → is_sum s ≡ false
+unsummed_step rule s is = ap is_sum is ∙ rule_unsummed rule
 
 pub place_is : (s : PlanStep) (f : Picture) (r place : Rect) (reach : Reach) (m n : ℕ) → m ≡ f.width → n ≡ f.height → reach ≡ reach_of (looks_at s) → place ≡ grown m n reach r → place ≡ place_read s f.width f.height r
 place_is s f r place reach m n wide high reaches is =
@@ -166,7 +166,7 @@ rule_fits rule s f r ws step image strip is =
 
 pub rule_made : (rule : Rule) (s : PlanStep) (f : Picture) (r : Rect) (ws : List SourceWindow) → s ≡ step_of rule → IsStrip r f → ws ≡ window_of (place_read s f.width f.height r) f ∷ [] → made_picture s ws r ≡ part_of (rule_picture rule f) r
 rule_made rule s f r ws step strip is =
-    one_made s f r ws (plain_step rule s step) strip is ∙ ap (λ (t : PlanStep). part_of (plane_of t (f ∷ []) f.width f.height) r) step
+    one_made s f r ws (unsummed_step rule s step) strip is ∙ ap (λ (t : PlanStep). part_of (plane_of t (f ∷ []) f.width f.height) r) step
 
 -- ---- tasks that are done
 

@@ -59,7 +59,7 @@ fn made_of(
     windows: Vec<SharedWindow>,
 ) -> Result<Image, NoMemory>
     requires fits { FitsStep (meaning step) tile windows.items }
-    requires plain { is_sum (meaning step) ≡ false }
+    requires unsummed { is_sum (meaning step) ≡ false }
     requires bounded { AllByRecursion IsBounded windows.items }
     ensures { IfOk result (λ g. g ≡ made_picture (meaning step) windows.items tile) }
 {

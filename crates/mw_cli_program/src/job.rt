@@ -1,7 +1,7 @@
 //! A job: from what the command line asks for to the exit status.
 
 ghost use Rattle.std.specs.Prelude.{◌≡◌, false};
-ghost use Rattle.mw_server_serve.specs.mw_batch.Batches.{SessionEnds};
+ghost use Rattle.mw_server_serve.specs.mw_batch.Batches.{SessionEnds, ends_of};
 ghost use Rattle.mw_grid.specs.Grids.{IsTileSide};
 ghost use Rattle.mw_server_serve.specs.mw_wire.Failures.{IsUnread};
 ghost use Rattle.mw_cli_program.specs.Jobs.{IsPossible, Performed, Scripted};
@@ -39,8 +39,8 @@ fn run_batch<R: Threads + Sync, I: Read, O: Write, F: Write>(
     requires side { IsTileSide given.now.side }
     requires source_fresh { IsUnread source.old.failed source.old.reads }
     requires sink_clear { sink.old.failed ≡ false }
-    ensures { let old : SessionEnds = record { left = I.remaining source.old.inner; reads = source.old.reads; read_failed = source.old.failed; written = O.contents sink.old.inner; write_failed = sink.old.failed; told = F.contents faults.old.inner; tell_failed = faults.old.failed } in
-        let new : SessionEnds = record { left = I.remaining source.new.inner; reads = source.new.reads; read_failed = source.new.failed; written = O.contents sink.new.inner; write_failed = sink.new.failed; told = F.contents faults.new.inner; tell_failed = faults.new.failed } in
+    ensures { let old : SessionEnds = ends_of I.remaining O.contents F.contents source.old sink.old faults.old in
+        let new : SessionEnds = ends_of I.remaining O.contents F.contents source.new sink.new faults.new in
         Scripted given.now.strict old new result }
 {
     if given.strict {
@@ -105,8 +105,8 @@ pub fn perform<
     requires possible { IsPossible job.now }
     requires source_fresh { IsUnread source.old.failed source.old.reads }
     requires sink_clear { sink.old.failed ≡ false }
-    ensures { let old : SessionEnds = record { left = I.remaining source.old.inner; reads = source.old.reads; read_failed = source.old.failed; written = O.contents sink.old.inner; write_failed = sink.old.failed; told = F.contents faults.old.inner; tell_failed = faults.old.failed } in
-        let new : SessionEnds = record { left = I.remaining source.new.inner; reads = source.new.reads; read_failed = source.new.failed; written = O.contents sink.new.inner; write_failed = sink.new.failed; told = F.contents faults.new.inner; tell_failed = faults.new.failed } in
+    ensures { let old : SessionEnds = ends_of I.remaining O.contents F.contents source.old sink.old faults.old in
+        let new : SessionEnds = ends_of I.remaining O.contents F.contents source.new sink.new faults.new in
         Performed job.now old new result }
 {
     match job {

@@ -18,7 +18,7 @@ use Rattle.mw_core_refusals.specs.mw_step_task.Products.{IsMade}
 use Rattle.mw_core_refusals.specs.mw_step_task.WindowTasks.{WindowTask}
 use Rattle.mw_core_ledger.specs.mw_core_planes.MadeTiles.{cells_of_made}
 use Rattle.mw_core_ledger.specs.mw_core_progress.ProgressView.{ProgressView, plane_at}
-use Rattle.mw_core_ledger.specs.mw_core_laws.Works as works
+use Rattle.mw_core_ledger.specs.mw_core_laws.Works as in_progress
 use Rattle.mw_core_ledger.specs.mw_core_laws.Works.{IsTrueWork, IsUnder, true_task}
 use Rattle.mw_core_ledger.proofs.mw_core_laws.Curves.{result-curve}
 use Rattle.mw_core_ledger.proofs.mw_core_laws.Going.{true-finished, true-under, under-finished}
@@ -51,7 +51,7 @@ running-here b d r =
     record {
       within = r.at.within;
       pending = r.pending;
-      work = progress-seen b.works d.task.ticket u r.at.work;
+      work = progress-seen b.in_progress d.task.ticket u r.at.work;
       in_plan = number_of-within u.progress d.task.step d.task.tile r.fit.of.within (omega (arith, r.fit.of.inside, length-tiles u r.at.whole));
       running = r.fit.of.running;
     }
@@ -62,7 +62,7 @@ result-under b m d s orderly r = under-work b m d.task.ticket r.progress r.image
 
 -- what was made is what the task makes by the definitions
 finishes-here : (b : Book) (m : Machine) (d : WindowTask) (v : ProgressView) → StandsFor (seen_of b) m → IsOrderly b → (f : FinishesAt b d v) → IsTrueResult m d f.was.progress
-    → works.Finishes m d.task.ticket f.was.progress v (result_number f.was.progress d)
+    → in_progress.Finishes m d.task.ticket f.was.progress v (result_number f.was.progress d)
 finishes-here b m d v s orderly f task =
     let t = d.task.ticket in
     let u = f.was.progress in
@@ -84,8 +84,8 @@ places-at b new m d s orderly p task =
     places c (seen_of new) m d u v n (cells_of_made f.made) s (complete-seen b orderly) (running-here b d f.was) task f.finished next.work (seen-set b new t (Some v) p.book)
 
 -- the work under the task's ticket is other work, and nothing else
-pub placed-under : (b new : Book) (d : WindowTask) → (p : PlacesAt b d new) → (k : TaskId) → k ≡ d.task → new ≡ record b { works = set b.works k.ticket (Some p.after) }
-placed-under b new d p k same = p.book ∙ ap (λ (x : TaskId). record b { works = set b.works x.ticket (Some p.after) }) (sym same)
+pub placed-under : (b new : Book) (d : WindowTask) → (p : PlacesAt b d new) → (k : TaskId) → k ≡ d.task → new ≡ record b { in_progress = set b.in_progress k.ticket (Some p.after) }
+placed-under b new d p k same = p.book ∙ ap (λ (x : TaskId). record b { in_progress = set b.in_progress x.ticket (Some p.after) }) (sym same)
 
 -- ---- it was the last of its ticket
 
@@ -130,7 +130,7 @@ settles-at b new m d s orderly p task =
     let own : value_at (values m) t ≡ Some (value_made e v)
     = value-made m t v e (ap (λ (w : Table). shape_at w.submissions t) (sym s.table)) (no-element c m t s f.was.at.within f.was.pending) (true-finished m t u v n (true-under m t u under) done) p.last in
     settles c (seen_of new) m d u n (value_made e v) s (complete-seen b orderly) (running-here b d f.was) task there (omega (arith, f.finished.lowered, p.last)) own p.table p.kept
-    (ap (map (option_map progress_of)) p.works ∙ map-set (option_map progress_of) b.works t None) p.log
+    (ap (map (option_map progress_of)) p.in_progress ∙ map-set (option_map progress_of) b.in_progress t None) p.log
 
 -- ---- what the ledger tells of a result
 
@@ -140,7 +140,7 @@ result-at b m d s orderly r =
     let t = d.task.ticket in
     let at = r.fits.at in
     let u = r.fits.progress in
-    result-true (seen_of b) m u r.fits.image d s at.within r.fits.pending (progress-seen b.works t u at.work) at.whole (orderly.planned t u at.work) at.first (record { fit = r.fits.fit; task = r.task })
+    result-true (seen_of b) m u r.fits.image d s at.within r.fits.pending (progress-seen b.in_progress t u at.work) at.whole (orderly.planned t u at.work) at.first (record { fit = r.fits.fit; task = r.task })
 
 pub tested-true : (b : Book) (m : Machine) (d : WindowTask) → StandsFor (seen_of b) m → IsOrderly b → IsResultAt b d → (r : IsFitAt b d) → IsTrueResult m d r.progress
 tested-true b m d s orderly x r =
@@ -189,7 +189,7 @@ pub found-at : (b : Book) (m : Machine) (d : WindowTask) → StandsFor (seen_of 
 found-at b m d s orderly r =
     let c : CoreView = seen_of b in
     let t = d.task.ticket in
-    let shown = work-shown b.works t r.progress r.work in
+    let shown = work-shown b.in_progress t r.progress r.work in
     let u = shown.0 in
     let planned = orderly.planned t u shown.1 in
     let within = work-within c t r.progress (complete-seen b orderly) r.work in
@@ -201,5 +201,5 @@ found-at b m d s orderly r =
       at = shown.1;
       first = planned.input.first;
       pending = pending;
-      found = λ whole. result-found c m u planned.input.image d s within pending (progress-seen b.works t u shown.1) whole planned planned.input.first r;
+      found = λ whole. result-found c m u planned.input.image d s within pending (progress-seen b.in_progress t u shown.1) whole planned planned.input.first r;
     }

@@ -13,7 +13,7 @@ use Rattle.mw_model.specs.declared.calls.Reply.TheVariants as reply
 use Rattle.mw_model.specs.declared.calls.LogItem.TheVariants as item
 use Rattle.mw_model.specs.Values.{Value, tickets}
 use Rattle.mw_model.specs.Refusals.{Table, Wanted, AnImage, AnElement, first_of, inputs_wanted, is_dead, name_taken, no_room, op_cases, outcome_at, refusal, wanted_case}
-use Rattle.mw_model.specs.Machine.{Machine, with_entry, run_submission}
+use Rattle.mw_model.specs.Machine.{with_entry, run_submission}
 use Rattle.mw_model.specs.Tasks.{Progress, remaining_tasks, running_tasks, task_count}
 use Rattle.mw_model.specs.Stands.{CoreView, progress_at}
 use Rattle.mw_core_refusals.specs.mw_plan.declared.inputs.Input.{Input}

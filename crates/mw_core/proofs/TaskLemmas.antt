@@ -32,11 +32,11 @@ use Rattle.mw_core_ledger.proofs.SeenLemmas.{progress-seen}
 -- ---- what a core shows of a ledger
 
 pub complete-seen : (b : Book) → IsOrderly b → IsComplete (seen_of b)
-complete-seen b orderly = record { stored = orderly.stored; work = length-map b.works (option_map progress_of) ∙ orderly.works }
+complete-seen b orderly = record { stored = orderly.stored; work = length-map b.in_progress (option_map progress_of) ∙ orderly.in_progress }
 
 -- other work under one ticket
-pub seen-set : (b new : Book) (t : ℕ) (x : Option ProgressView) → new ≡ record b { works = set b.works t x } → seen_of new ≡ (let c : CoreView = seen_of b in record c { work = set c.work t (option_map progress_of x) })
-seen-set b new t x is = ap seen_of is ∙ ap (λ (ws : List (Option Progress)). let c : CoreView = seen_of b in record c { work = ws }) (map-set (option_map progress_of) b.works t x)
+pub seen-set : (b new : Book) (t : ℕ) (x : Option ProgressView) → new ≡ record b { in_progress = set b.in_progress t x } → seen_of new ≡ (let c : CoreView = seen_of b in record c { work = set c.work t (option_map progress_of x) })
+seen-set b new t x is = ap seen_of is ∙ ap (λ (ws : List (Option Progress)). let c : CoreView = seen_of b in record c { work = ws }) (map-set (option_map progress_of) b.in_progress t x)
 
 -- ---- what is known of the work under a pending ticket
 
@@ -48,7 +48,7 @@ under-work b m t u image s orderly at pending =
     record {
       whole = at.whole;
       planned = planned-at m t u (stands-sound c m s) (subst Named s.table at.within) (subst Planned s.table (orderly.planned t u at.work)) at.whole;
-      work = work-of c m t u.progress s at.within pending (progress-seen b.works t u at.work);
+      work = work-of c m t u.progress s at.within pending (progress-seen b.in_progress t u at.work);
     }
 
 -- the sources that are kept are those by the definitions
@@ -81,7 +81,7 @@ takes-begins b new m t w s orderly ready took =
     let under = under-work b m t u took.image s orderly took.at able.0 in
     let next = under-started m t u v n under able.1 one.whole one.started in
     let sources = sources-here c m t u n took.image (reads-first b m t u took.image s orderly took.at able.0 able.1) (true-under m t u under) one.within in
-    begins c (seen_of new) m t u v n (image_of (value_at b.kept took.image)) w s (complete-seen b orderly) took.at.within ready (progress-seen b.works t u took.at.work) one.within one.ready next.work one.task sources one.started
+    begins c (seen_of new) m t u v n (image_of (value_at b.kept took.image)) w s (complete-seen b orderly) took.at.within ready (progress-seen b.in_progress t u took.at.work) one.within one.ready next.work one.task sources one.started
     (seen-set b new t (Some v) took.book)
 
 -- a task that is ready has windows that fit its step

@@ -1,4 +1,4 @@
-//! The core: a ledger, and the counts of its tasks. What is private here is said in plain equations, beside any machine.
+//! The core: a ledger, and the counts of its tasks. What is private here is said by equations, beside any machine.
 
 ghost use Rattle.std.specs.Prelude.{◌≡◌, ◌⊎◌, ◌<◌, ◌≤◌, [], ◌∷◌, ◌++◌, length, OnOk, OnErr, IfOk, IfSome, option_map, true, false};
 ghost use Rattle.mw_model.specs.declared.limits.TheConstants.{ENTRY_LIMIT, TASK_LIMIT};

@@ -2,7 +2,7 @@
 //! kept of its tasks is what they make by the definitions, from its first task to the value under the ticket. Then come lemmas
 //! on what a core shows before and after each change that it can make.
 //!
-//! So the crates that change a core, `mw_core_tasks`, `mw_core_ledger` and `mw_core`, prove each change once and in plain equations, and
+//! So the crates that change a core, `mw_core_tasks`, `mw_core_ledger` and `mw_core`, prove each change once and by equations, and
 //! cite here what it means for the machine. They take from here too what they need of the store and of the work under a ticket.
 //! There are definitions, laws and lemmas here, and no code that runs: what the core does, beside any machine, is said in
 //! `mw_core_ledger`.
@@ -18,7 +18,7 @@ pub use mw_store::{
 
 // What lower crates offer, for the crates above.
 pub mod gran {
-    pub use mw_store::gran::{Curve, plan_of_any};
+    pub use mw_store::gran::{Curve, plan_of_legal};
 }
 
 pub mod plan {

@@ -37,12 +37,12 @@ running-alike c new v same = ap (λ (o : Option Progress). option_map_or running
 running-some : (b : Book) (t : ℕ) → IsOrderly b → running_under (seen_of b) t ≤ 4194304
 running-some b t orderly =
     let under : Option ProgressView → ℕ = λ o. option_map_or running_tasks (option_map progress_of o) 0 in
-    let seen : running_under (seen_of b) t ≡ under (work_at b.works t) = ap (λ (o : Option Progress). option_map_or running_tasks o 0) (work-seen b t) in
-    elim (option_cases (work_at b.works t)) [
-      | inl none ↦ let e : under (work_at b.works t) ≡ 0 = ap under none in omega (arith, seen, e)
+    let seen : running_under (seen_of b) t ≡ under (work_at b.in_progress t) = ap (λ (o : Option Progress). option_map_or running_tasks o 0) (work-seen b t) in
+    elim (option_cases (work_at b.in_progress t)) [
+      | inl none ↦ let e : under (work_at b.in_progress t) ≡ 0 = ap under none in omega (arith, seen, e)
       | inr some ↦
           let p = (some.0).progress in
-          let e : under (work_at b.works t) ≡ running_tasks p = ap under some.1 in
+          let e : under (work_at b.in_progress t) ≡ running_tasks p = ap under some.1 in
           omega (arith, seen, e, orderly.most t some.0 some.1, count_by-le-length (is_running p) (tasks_below p), length-range_with_len 0 (task_count p))
     ]
 
@@ -70,19 +70,19 @@ running-set b new t was running now orderly within long was-is others running-is
 -- ---- changes of a ledger
 
 -- the work under one ticket has changed
-pub counts-followed : (b new : Book) (old k : Tally) (t was : ℕ) (x : Option ProgressView) → IsOrderly b → t < length new.table.names → AreCounts (seen_of b) old → new ≡ record b { works = set b.works t x } → was ≡ running_under (seen_of b) t
+pub counts-followed : (b new : Book) (old k : Tally) (t was : ℕ) (x : Option ProgressView) → IsOrderly b → t < length new.table.names → AreCounts (seen_of b) old → new ≡ record b { in_progress = set b.in_progress t x } → was ≡ running_under (seen_of b) t
     → k.ready ≡ set old.ready t (ready_under (seen_of new) t) → (old.running ≤ 2 ^ 63 → k.running ≡ old.running - was + running_under (seen_of new) t) → AreCounts (seen_of new) k
 counts-followed b new old k t was x orderly in-new counts is was-is ready running =
     let n = length b.table.names in
     let table : new.table ≡ b.table = ap (λ (d : Book). d.table) is in
-    let works : new.works ≡ set b.works t x = ap (λ (d : Book). d.works) is in
+    let in_progress : new.in_progress ≡ set b.in_progress t x = ap (λ (d : Book). d.in_progress) is in
     let long : length new.table.names ≡ n = ap (λ (w : Table). length w.names) table in
     let within : t < n = omega arith in
     let written : set (row (ready_under (seen_of b)) n) t (ready_under (seen_of new) t) ≡ row (ready_under (seen_of new)) n =
-    row-set (ready_under (seen_of b)) (ready_under (seen_of new)) n t within (λ v lt ne. ready-other b new t v x table works ne)
+    row-set (ready_under (seen_of b)) (ready_under (seen_of new)) n t within (λ v lt ne. ready-other b new t v x table in_progress ne)
     in (
       ready ∙ ap (λ (xs : List ℕ). set xs t (ready_under (seen_of new) t)) counts.0 ∙ written ∙ ap (row (ready_under (seen_of new))) (sym long),
-      running-set b new t was old.running k.running orderly within long was-is (λ v ne. work-other b new t v x works ne) counts.1 running,
+      running-set b new t was old.running k.running orderly within long was-is (λ v ne. work-other b new t v x in_progress ne) counts.1 running,
     )
 
 -- an entry was added
@@ -110,7 +110,7 @@ counts-added b new before old k t c n e u room orderly counts old-is is last rea
     ])
     in
     let alike : (v : ℕ) → v < m → q v ≡ p v = λ v lt. running-alike (seen_of b) (seen_of new) v
-    (work-alike b new v (ap (λ (d : Book). work_at d.works v) is ∙ get_or-push_below b.works u None v (let works = orderly.works in omega arith)))
+    (work-alike b new v (ap (λ (d : Book). work_at d.in_progress v) is ∙ get_or-push_below b.in_progress u None v (let in_progress = orderly.in_progress in omega arith)))
     in
     let others : row q m ≡ row p m = row-is (row q m) p m (length-map-range_with_len q 0 m) (λ v lt. row-at q m v lt ∙ alike v lt) in
     let others-sum : sum (row q m) ≡ sum (row p m) = ap (λ (xs : List ℕ). sum xs) others in
@@ -124,10 +124,10 @@ counts-added b new before old k t c n e u room orderly counts old-is is last rea
     (ready ∙ ap (λ (xs : List ℕ). set xs t (g t)) held ∙ written ∙ ap (row g) (sym long), total)
 
 -- a ticket is settled, and those that waited for it are counted anew
-pub counts-settled : (b new : Book) (old k : Tally) (t was : ℕ) (mid waiters : List ℕ) → IsOrderly b → t < length new.table.names → AreCounts (seen_of b) old → new.table ≡ settled b.table t outcome.Done → new.works ≡ set b.works t None
+pub counts-settled : (b new : Book) (old k : Tally) (t was : ℕ) (mid waiters : List ℕ) → IsOrderly b → t < length new.table.names → AreCounts (seen_of b) old → new.table ≡ settled b.table t outcome.Done → new.in_progress ≡ set b.in_progress t None
     → was ≡ running_under (seen_of b) t → WaitFor b t waiters → mid ≡ set old.ready t (ready_under (seen_of new) t) → AreAnew (ready_under (seen_of new)) mid k.ready waiters
     → (old.running ≤ 2 ^ 63 → k.running ≡ old.running - was + running_under (seen_of new) t) → AreCounts (seen_of new) k
-counts-settled b new old k t was mid waiters orderly in-new counts table works was-is wait mid-is anew running =
+counts-settled b new old k t was mid waiters orderly in-new counts table in_progress was-is wait mid-is anew running =
     let n = length b.table.names in
     let f = ready_under (seen_of b) in
     let g = ready_under (seen_of new) in
@@ -140,7 +140,7 @@ counts-settled b new old k t was mid waiters orderly in-new counts table works w
     let apart : (v : ℕ) → v < n → v ≢ t → list_any (nat_eq v) waiters ≡ false → g v ≡ f v =
     λ v lt ne out. elim (cases_Bool (is_pending (outcome_at b.table.outcomes v) && list_any (nat_eq t) (inputs_of b.table v))) [
       | inl waits ↦ absurd (let in_list = wait v lt waits in cc)
-      | inr free ↦ ready-apart b new t v outcome.Done table works ne free
+      | inr free ↦ ready-apart b new t v outcome.Done table in_progress ne free
     ]
     in
     let at : (v : ℕ) → v < n → get_or k.ready v 0 ≡ g v = λ v lt. elim (cases_Bool (list_any (nat_eq v) waiters)) [
@@ -152,13 +152,13 @@ counts-settled b new old k t was mid waiters orderly in-new counts table works w
     ]
     in (
       row-is k.ready g n (omega arith) at ∙ ap (row g) (sym long),
-      running-set b new t was old.running k.running orderly within long was-is (λ v ne. work-other b new t v None works ne) counts.1 running,
+      running-set b new t was old.running k.running orderly within long was-is (λ v ne. work-other b new t v None in_progress ne) counts.1 running,
     )
 
 -- a ticket has ended that is no input of a pending entry
-pub counts-ended : (b new : Book) (old k : Tally) (t was : ℕ) (o : Outcome) → IsOrderly b → t < length new.table.names → AreCounts (seen_of b) old → new.table ≡ settled b.table t o → new.works ≡ set b.works t None → is_wanted b.table t ≡ false → was ≡ running_under (seen_of b) t
+pub counts-ended : (b new : Book) (old k : Tally) (t was : ℕ) (o : Outcome) → IsOrderly b → t < length new.table.names → AreCounts (seen_of b) old → new.table ≡ settled b.table t o → new.in_progress ≡ set b.in_progress t None → is_wanted b.table t ≡ false → was ≡ running_under (seen_of b) t
     → k.ready ≡ set old.ready t (ready_under (seen_of new) t) → (old.running ≤ 2 ^ 63 → k.running ≡ old.running - was + running_under (seen_of new) t) → AreCounts (seen_of new) k
-counts-ended b new old k t was o orderly in-new counts table works nobody was-is ready running =
+counts-ended b new old k t was o orderly in-new counts table in_progress nobody was-is ready running =
     let n = length b.table.names in
     let long : length new.table.names ≡ n = ap (λ (w : Table). length w.names) table in
     let within : t < n = omega arith in
@@ -170,28 +170,28 @@ counts-ended b new old k t was o orderly in-new counts table works nobody was-is
     ]
     in
     let written : set (row (ready_under (seen_of b)) n) t (ready_under (seen_of new) t) ≡ row (ready_under (seen_of new)) n =
-    row-set (ready_under (seen_of b)) (ready_under (seen_of new)) n t within (λ v lt ne. ready-apart b new t v o table works ne (apart v lt))
+    row-set (ready_under (seen_of b)) (ready_under (seen_of new)) n t within (λ v lt ne. ready-apart b new t v o table in_progress ne (apart v lt))
     in (
       ready ∙ ap (λ (xs : List ℕ). set xs t (ready_under (seen_of new) t)) counts.0 ∙ written ∙ ap (row (ready_under (seen_of new))) (sym long),
-      running-set b new t was old.running k.running orderly within long was-is (λ v ne. work-other b new t v None works ne) counts.1 running,
+      running-set b new t was old.running k.running orderly within long was-is (λ v ne. work-other b new t v None in_progress ne) counts.1 running,
     )
 
 -- ---- what the crate above asks
 
 -- a ticket that is done is released
-pub counts-released : (b new : Book) (t : ℕ) (k : Tally) → IsOrderly b → AreCounts (seen_of b) k → t < length b.table.names → outcome_at b.table.outcomes t ≡ outcome.Done → new.table ≡ settled b.table t outcome.Released → new.works ≡ b.works
+pub counts-released : (b new : Book) (t : ℕ) (k : Tally) → IsOrderly b → AreCounts (seen_of b) k → t < length b.table.names → outcome_at b.table.outcomes t ≡ outcome.Done → new.table ≡ settled b.table t outcome.Released → new.in_progress ≡ b.in_progress
     → AreCounts (seen_of new) k
-counts-released b new t k orderly counts within done table works =
+counts-released b new t k orderly counts within done table in_progress =
     let n = length b.table.names in
     let long : length new.table.names ≡ n = ap (λ (w : Table). length w.names) table in
     let ready : row (ready_under (seen_of b)) n ≡ row (ready_under (seen_of new)) n =
-    row-is (row (ready_under (seen_of b)) n) (ready_under (seen_of new)) n (length-map-range_with_len (ready_under (seen_of b)) 0 n) (λ v lt. row-at (ready_under (seen_of b)) n v lt ∙ sym (ready-released b new t v orderly within done table works))
+    row-is (row (ready_under (seen_of b)) n) (ready_under (seen_of new)) n (length-map-range_with_len (ready_under (seen_of b)) 0 n) (λ v lt. row-at (ready_under (seen_of b)) n v lt ∙ sym (ready-released b new t v orderly within done table in_progress))
     in
-    let running : row (running_under (seen_of b)) n ≡ row (running_under (seen_of new)) n = ap (λ (ws : List (Option ProgressView)). row (running_under (seen_of (record b { works = ws }))) n) (sym works) in (
+    let running : row (running_under (seen_of b)) n ≡ row (running_under (seen_of new)) n = ap (λ (ws : List (Option ProgressView)). row (running_under (seen_of (record b { in_progress = ws }))) n) (sym in_progress) in (
       counts.0 ∙ ready ∙ ap (row (ready_under (seen_of new))) (sym long),
       counts.1 ∙ ap (λ (xs : List ℕ). sum xs) running ∙ ap (λ (j : ℕ). sum (row (running_under (seen_of new)) j)) (sym long),
     )
 
 -- neither an entry nor work has changed
-pub counts-kept : (b new : Book) (k : Tally) → new.table ≡ b.table → new.works ≡ b.works → AreCounts (seen_of b) k → AreCounts (seen_of new) k
-counts-kept b new k table works counts = rw (table, works) counts
+pub counts-kept : (b new : Book) (k : Tally) → new.table ≡ b.table → new.in_progress ≡ b.in_progress → AreCounts (seen_of b) k → AreCounts (seen_of new) k
+counts-kept b new k table in_progress counts = rw (table, in_progress) counts

@@ -36,9 +36,9 @@ pub record Follows (old new : Book) : Type 0 where
   pub stored : StoreIsWhole (stored_in new)
   pub submissions : new.table.submissions ≡ old.table.submissions
   pub names : length new.table.names ≡ length old.table.names
-  pub count : length new.works ≡ length old.works
-  pub works : (t : ℕ) (u : ProgressView) → work_at new.works t ≡ Some u → work_at old.works t ≡ Some u
-  pub under : (t : ℕ) (u : ProgressView) → work_at new.works t ≡ Some u → outcome_at new.table.outcomes t ≡ outcome.Pending
+  pub count : length new.in_progress ≡ length old.in_progress
+  pub in_progress : (t : ℕ) (u : ProgressView) → work_at new.in_progress t ≡ Some u → work_at old.in_progress t ≡ Some u
+  pub under : (t : ℕ) (u : ProgressView) → work_at new.in_progress t ≡ Some u → outcome_at new.table.outcomes t ≡ outcome.Pending
   pub side : new.side ≡ old.side
 
 planned-table : (w v : Table) (t : ℕ) (u : ProgressView) → v.submissions ≡ w.submissions → IsPlannedAt w t u → IsPlannedAt v t u
@@ -49,22 +49,22 @@ planned-table w v t u same h =
 pub follows-orderly : (old new : Book) → IsOrderly old → Follows old new → IsOrderly new
 follows-orderly old new o f = record {
   stored = f.stored;
-  works = f.count ∙ o.works ∙ sym f.names;
+  in_progress = f.count ∙ o.in_progress ∙ sym f.names;
   fits = λ t l.
       let P : List Submission → Type 0 = λ ss. FitsLimits (shape_at ss t) in
       subst P (sym f.submissions) (o.fits t (omega (arith, l, f.names)));
   under = f.under;
-  planned = λ t u e. planned-table old.table new.table t u f.submissions (o.planned t u (f.works t u e));
-  left = λ t u e. o.left t u (f.works t u e);
-  most = λ t u e. o.most t u (f.works t u e);
+  planned = λ t u e. planned-table old.table new.table t u f.submissions (o.planned t u (f.in_progress t u e));
+  left = λ t u e. o.left t u (f.in_progress t u e);
+  most = λ t u e. o.most t u (f.in_progress t u e);
   side = subst IsTileSide (sym f.side) o.side;
 }
 
 -- another log, and other room in it
-pub alike-orderly : (b : Book) (ws : List (Option ProgressView)) (log : List LogItem) (room : ℕ) → IsOrderly b → ws ≡ b.works → IsOrderly (record b { works = ws; log = log; room = room })
+pub alike-orderly : (b : Book) (ws : List (Option ProgressView)) (log : List LogItem) (room : ℕ) → IsOrderly b → ws ≡ b.in_progress → IsOrderly (record b { in_progress = ws; log = log; room = room })
 alike-orderly b ws log room o same =
-    let P : List (Option ProgressView) → Type 0 = λ xs. IsOrderly (record b { works = xs; log = log; room = room }) in
-    subst P (sym same) (record { stored = o.stored; works = o.works; fits = o.fits; under = o.under; planned = o.planned; left = o.left; most = o.most; side = o.side })
+    let P : List (Option ProgressView) → Type 0 = λ xs. IsOrderly (record b { in_progress = xs; log = log; room = room }) in
+    subst P (sym same) (record { stored = o.stored; in_progress = o.in_progress; fits = o.fits; under = o.under; planned = o.planned; left = o.left; most = o.most; side = o.side })
 
 kept-was : (b : Bool) (o : Option ProgressView) (u : ProgressView) → cond b o None ≡ Some u → o ≡ Some u
 kept-was true o u e = e
@@ -165,33 +165,33 @@ planned-pends w (entry.Image f) (Some v) h = absurd (let first : None ≡ Some h
 planned-pends w (entry.Element b) (Some v) h = absurd (let first : None ≡ Some h.input.image = h.input.first in cc)
 planned-pends w (entry.Run s) (Some v) h = refl
 
-under-joined : (b : Book) (o : Outcome) (u : Option ProgressView) → IsOrderly b → IfSome u (λ v. o ≡ outcome.Pending) → (t : ℕ) (v : ProgressView) → work_at (b.works ++ u ∷ []) t ≡ Some v → outcome_at (b.table.outcomes ++ o ∷ []) t ≡ outcome.Pending
+under-joined : (b : Book) (o : Outcome) (u : Option ProgressView) → IsOrderly b → IfSome u (λ v. o ≡ outcome.Pending) → (t : ℕ) (v : ProgressView) → work_at (b.in_progress ++ u ∷ []) t ≡ Some v → outcome_at (b.table.outcomes ++ o ∷ []) t ≡ outcome.Pending
 under-joined b o u k pends t v h =
-    elim (work-cases b.works u t v h) [
-      | inl l ↦ get_or-push_below b.table.outcomes o outcome.Pending t (omega (arith, l.0, k.works, k.stored.outcomes)) ∙ k.under t v l.1
-      | inr l ↦ get_or-push_last b.table.outcomes o outcome.Pending t (l.0 ∙ k.works ∙ sym k.stored.outcomes) ∙ some-has (λ x. o ≡ outcome.Pending) u v l.1 pends
+    elim (work-cases b.in_progress u t v h) [
+      | inl l ↦ get_or-push_below b.table.outcomes o outcome.Pending t (omega (arith, l.0, k.in_progress, k.stored.outcomes)) ∙ k.under t v l.1
+      | inr l ↦ get_or-push_last b.table.outcomes o outcome.Pending t (l.0 ∙ k.in_progress ∙ sym k.stored.outcomes) ∙ some-has (λ x. o ≡ outcome.Pending) u v l.1 pends
     ]
 
 -- the same book with an entry more
 abbrev pub joined : Book → Name → Submission → Outcome → List (Option Value) → Option ProgressView → List LogItem → ℕ → Book
-joined b n e o kept u log room = record { table = with_entry b.table n e o; kept = kept; works = b.works ++ u ∷ []; log = log; side = b.side; room = room }
+joined b n e o kept u log room = record { table = with_entry b.table n e o; kept = kept; in_progress = b.in_progress ++ u ∷ []; log = log; side = b.side; room = room }
 
-planned-joined : (b : Book) (n : Name) (e : Submission) (o : Outcome) (u : Option ProgressView) → IsOrderly b → CanJoin b e u → (t : ℕ) (v : ProgressView) → work_at (b.works ++ u ∷ []) t ≡ Some v
+planned-joined : (b : Book) (n : Name) (e : Submission) (o : Outcome) (u : Option ProgressView) → IsOrderly b → CanJoin b e u → (t : ℕ) (v : ProgressView) → work_at (b.in_progress ++ u ∷ []) t ≡ Some v
     → IsPlannedAt (with_entry b.table n e o) t v
 planned-joined b n e o u k j t v h =
     let ss = b.table.submissions in
     let same = k.stored.submissions in
     let Planned : Submission → Type 0 = λ s. IsPlannedOn (with_entry b.table n e o) s v in
     let Below : ℕ → Submission → Type 0 = λ m s. AllByRecursion (λ i. i < m) (tickets s.inputs) in
-    elim (work-cases b.works u t v h) [
+    elim (work-cases b.in_progress u t v h) [
       | inl l ↦
-          let within : t < length ss = omega (arith, l.0, k.works, same) in
+          let within : t < length ss = omega (arith, l.0, k.in_progress, same) in
           let own = submission_at ss t in
           let below = all-weaker (λ i. i < t) (λ i. i < length ss) (tickets own.inputs) (λ i m. omega (arith, m, within)) (k.stored.inputs t within) in
           subst Planned (sym (get_or-push_below ss e no_submission t within)) (planned-stays b.table n e o own v below (k.planned t v l.1))
       | inr l ↦
           let below = all-weaker (λ i. i < length b.table.names) (λ i. i < length ss) (tickets e.inputs) (λ i m. omega (arith, m, same)) j.below in
-          subst Planned (sym (last-entry ss e t (l.0 ∙ k.works ∙ sym same))) (planned-stays b.table n e o e v below (some-has (IsPlannedOn b.table e) u v l.1 j.planned))
+          subst Planned (sym (last-entry ss e t (l.0 ∙ k.in_progress ∙ sym same))) (planned-stays b.table n e o e v below (some-has (IsPlannedOn b.table e) u v l.1 j.planned))
     ]
 
 fits-joined : (b : Book) (n : Name) (e : Submission) (o : Outcome) → IsOrderly b → FitsLimits e.shape → ShapesFit (with_entry b.table n e o)
@@ -209,17 +209,17 @@ pub joined-orderly : (b : Book) (n : Name) (e : Submission) (o : Outcome) (kept 
     → StoreIsWhole (stored_in (joined b n e o kept u log room)) → IsOrderly (joined b n e o kept u log room)
 joined-orderly b n e o kept u log room k j pends whole = record {
   stored = whole;
-  works = omega (arith, length-append b.works (u ∷ []), length-append b.table.names (n ∷ []), k.works);
+  in_progress = omega (arith, length-append b.in_progress (u ∷ []), length-append b.table.names (n ∷ []), k.in_progress);
   fits = fits-joined b n e o k j.fits;
   under = under-joined b o u k pends;
   planned = planned-joined b n e o u k j;
   left = λ t v h.
-      elim (work-cases b.works u t v h) [
+      elim (work-cases b.in_progress u t v h) [
         | inl l ↦ k.left t v l.1
         | inr l ↦ some-has (λ (x : ProgressView). 1 ≤ remaining_tasks x.progress) u v l.1 j.left
       ];
   most = λ t v h.
-      elim (work-cases b.works u t v h) [
+      elim (work-cases b.in_progress u t v h) [
         | inl l ↦ k.most t v l.1
         | inr l ↦ some-has (λ (x : ProgressView). task_count x.progress ≤ 4194304) u v l.1 j.most
       ];
@@ -260,7 +260,7 @@ count-same old new g = rw (g.plan, g.tiles) refl
 
 -- the book with this work under the ticket, or none
 abbrev pub with_work : Book → ℕ → Option ProgressView → Book
-with_work b t u = record b { works = set b.works t u }
+with_work b t u = record b { in_progress = set b.in_progress t u }
 
 set-cases : (ws : List (Option ProgressView)) (t : ℕ) (o : Option ProgressView) (k : ℕ) (v : ProgressView) → t < length ws → work_at (set ws t o) k ≡ Some v → ((k ≡ t) × (o ≡ Some v)) ⊎ (work_at ws k ≡ Some v)
 set-cases ws t o k v within h =
@@ -278,13 +278,13 @@ none-left ws t =
     ]
 
 -- without the work under a ticket
-pub without-orderly : (b : Book) (t : ℕ) → IsOrderly b → t < length b.works → IsOrderly (with_work b t None)
+pub without-orderly : (b : Book) (t : ℕ) → IsOrderly b → t < length b.in_progress → IsOrderly (with_work b t None)
 without-orderly b t k within =
-    let was : (i : ℕ) (u : ProgressView) → work_at (set b.works t None) i ≡ Some u → work_at b.works i ≡ Some u
-    = λ i u h. elim (set-cases b.works t None i u within h) [ inl l ↦ let no = l.1 in absurd cc | inr e ↦ e ] in
+    let was : (i : ℕ) (u : ProgressView) → work_at (set b.in_progress t None) i ≡ Some u → work_at b.in_progress i ≡ Some u
+    = λ i u h. elim (set-cases b.in_progress t None i u within h) [ inl l ↦ let no = l.1 in absurd cc | inr e ↦ e ] in
     record {
       stored = k.stored;
-      works = length-set b.works t None ∙ k.works;
+      in_progress = length-set b.in_progress t None ∙ k.in_progress;
       fits = k.fits;
       under = λ i u h. k.under i u (was i u h);
       planned = λ i u h. k.planned i u (was i u h);
@@ -294,7 +294,7 @@ without-orderly b t k within =
     }
 
 -- with work that went on there
-pub with-orderly : (b : Book) (t : ℕ) (old new : ProgressView) → IsOrderly b → t < length b.works → work_at b.works t ≡ Some old → GoesOn old new → 1 ≤ remaining_tasks new.progress
+pub with-orderly : (b : Book) (t : ℕ) (old new : ProgressView) → IsOrderly b → t < length b.in_progress → work_at b.in_progress t ≡ Some old → GoesOn old new → 1 ≤ remaining_tasks new.progress
     → IsOrderly (with_work b t (Some new))
 with-orderly b t old new k within there g left =
     let At : ℕ → Type 0 = λ i. IsPlannedAt b.table i new in
@@ -303,25 +303,25 @@ with-orderly b t old new k within there g left =
     let of : (P : ProgressView → Type 0) (v : ProgressView) → Some new ≡ Some v → P new → P v = λ P v e p. some-has P (Some new) v e p in
     record {
       stored = k.stored;
-      works = length-set b.works t (Some new) ∙ k.works;
+      in_progress = length-set b.in_progress t (Some new) ∙ k.in_progress;
       fits = k.fits;
       under = λ i u h.
-          elim (set-cases b.works t (Some new) i u within h) [
+          elim (set-cases b.in_progress t (Some new) i u within h) [
             | inl l ↦ ap (outcome_at b.table.outcomes) l.0 ∙ k.under t old there
             | inr e ↦ k.under i u e
           ];
       planned = λ i u h.
-          elim (set-cases b.works t (Some new) i u within h) [
+          elim (set-cases b.in_progress t (Some new) i u within h) [
             | inl l ↦ of (λ (v : ProgressView). IsPlannedAt b.table i v) u l.1 (subst At (sym l.0) here)
             | inr e ↦ k.planned i u e
           ];
       left = λ i u h.
-          elim (set-cases b.works t (Some new) i u within h) [
+          elim (set-cases b.in_progress t (Some new) i u within h) [
             | inl l ↦ of (λ (v : ProgressView). 1 ≤ remaining_tasks v.progress) u l.1 left
             | inr e ↦ k.left i u e
           ];
       most = λ i u h.
-          elim (set-cases b.works t (Some new) i u within h) [
+          elim (set-cases b.in_progress t (Some new) i u within h) [
             | inl l ↦ of (λ (v : ProgressView). task_count v.progress ≤ 4194304) u l.1 most
             | inr e ↦ k.most i u e
           ];

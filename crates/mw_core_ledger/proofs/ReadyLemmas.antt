@@ -24,15 +24,15 @@ use Rattle.mw_core_ledger.specs.Books.{Book, IsOrderly, progress_of, seen_of, wo
 use Rattle.mw_core_ledger.specs.Changes.{with_accepted}
 
 -- what a core shows of the work under a ticket
-pub work-seen : (b : Book) (v : ℕ) → progress_at (seen_of b).work v ≡ option_map progress_of (work_at b.works v)
-work-seen b v = get_or-map (option_map progress_of) b.works v None
+pub work-seen : (b : Book) (v : ℕ) → progress_at (seen_of b).work v ≡ option_map progress_of (work_at b.in_progress v)
+work-seen b v = get_or-map (option_map progress_of) b.in_progress v None
 
-pub work-alike : (b new : Book) (v : ℕ) → work_at new.works v ≡ work_at b.works v → progress_at (seen_of new).work v ≡ progress_at (seen_of b).work v
+pub work-alike : (b new : Book) (v : ℕ) → work_at new.in_progress v ≡ work_at b.in_progress v → progress_at (seen_of new).work v ≡ progress_at (seen_of b).work v
 work-alike b new v same = work-seen new v ∙ ap (option_map progress_of) same ∙ sym (work-seen b v)
 
 -- work is written under another ticket
-pub work-other : (b new : Book) (t v : ℕ) (x : Option ProgressView) → new.works ≡ set b.works t x → v ≢ t → progress_at (seen_of new).work v ≡ progress_at (seen_of b).work v
-work-other b new t v x is other = work-alike b new v (ap (λ (ws : List (Option ProgressView)). work_at ws v) is ∙ get_or-set_other b.works t v x None other)
+pub work-other : (b new : Book) (t v : ℕ) (x : Option ProgressView) → new.in_progress ≡ set b.in_progress t x → v ≢ t → progress_at (seen_of new).work v ≡ progress_at (seen_of b).work v
+work-other b new t v x is other = work-alike b new v (ap (λ (ws : List (Option ProgressView)). work_at ws v) is ∙ get_or-set_other b.in_progress t v x None other)
 
 -- ---- tests on inputs
 
@@ -74,8 +74,8 @@ ready-none c v settled_now = ap (λ (b : Bool). if b && inputs_there c.table v t
 -- ---- changes of a ledger
 
 -- the work under another ticket has changed
-pub ready-other : (b new : Book) (t v : ℕ) (x : Option ProgressView) → new.table ≡ b.table → new.works ≡ set b.works t x → v ≢ t → ready_under (seen_of new) v ≡ ready_under (seen_of b) v
-ready-other b new t v x table works other = ready-alike (seen_of b) (seen_of new) v (ap (λ (w : Table). may_run w v) table) (work-other b new t v x works other)
+pub ready-other : (b new : Book) (t v : ℕ) (x : Option ProgressView) → new.table ≡ b.table → new.in_progress ≡ set b.in_progress t x → v ≢ t → ready_under (seen_of new) v ≡ ready_under (seen_of b) v
+ready-other b new t v x table in_progress other = ready-alike (seen_of b) (seen_of new) v (ap (λ (w : Table). may_run w v) table) (work-other b new t v x in_progress other)
 
 -- an entry was added behind the ticket
 pub ready-before : (b : Book) (c : Call) (n : Name) (e : Entry) (u : Option ProgressView) (room v : ℕ) → IsOrderly b → v < length b.table.names → ready_under (seen_of (with_accepted b c n e u room)) v ≡ ready_under (seen_of b) v
@@ -90,13 +90,13 @@ ready-before b c n e u room v orderly within =
     in
     let below = whole.inputs v (let long = whole.submissions in omega arith) in
     let inputs = all-weaker (λ (i : ℕ). i < v) (λ (i : ℕ). is_there (outcome_at new.table.outcomes i) ≡ is_there (outcome_at b.table.outcomes i)) (inputs_of b.table v) (λ i lt. ap is_there (outcome-same i (omega arith))) below in
-    let work = work-alike b new v (get_or-push_below b.works u None v (let long = orderly.works in omega arith)) in
+    let work = work-alike b new v (get_or-push_below b.in_progress u None v (let long = orderly.in_progress in omega arith)) in
     ready-alike (seen_of b) (seen_of new) v (may-run-alike b.table new.table v (ap is_pending (outcome-same v within)) submission-same inputs) work
 
 -- another ticket ends, for which this one did not wait
-pub ready-apart : (b new : Book) (t v : ℕ) (o : Outcome) → new.table ≡ settled b.table t o → new.works ≡ set b.works t None → v ≢ t
+pub ready-apart : (b new : Book) (t v : ℕ) (o : Outcome) → new.table ≡ settled b.table t o → new.in_progress ≡ set b.in_progress t None → v ≢ t
     → (is_pending (outcome_at b.table.outcomes v) && list_any (nat_eq t) (inputs_of b.table v)) ≡ false → ready_under (seen_of new) v ≡ ready_under (seen_of b) v
-ready-apart b new t v o table works other apart =
+ready-apart b new t v o table in_progress other apart =
     let outcomes : new.table.outcomes ≡ set b.table.outcomes t o = ap (λ (w : Table). w.outcomes) table in
     let submissions : new.table.submissions ≡ b.table.submissions = ap (λ (w : Table). w.submissions) table in
     let outcome-same : (i : ℕ) → i ≢ t → outcome_at new.table.outcomes i ≡ outcome_at b.table.outcomes i =
@@ -110,14 +110,14 @@ ready-apart b new t v o table works other apart =
           in
           ready-alike (seen_of b) (seen_of new) v
           (may-run-alike b.table new.table v (ap is_pending (outcome-same v other)) (ap (λ s. submission_at s v) submissions) inputs)
-          (work-other b new t v None works other)
+          (work-other b new t v None in_progress other)
       | inr over ↦ ready-none (seen_of new) v (ap is_pending (outcome-same v other) ∙ over) ∙ sym (ready-none (seen_of b) v over)
     ]
 
 -- a ticket that is done is released
-pub ready-released : (b new : Book) (t v : ℕ) → IsOrderly b → t < length b.table.names → outcome_at b.table.outcomes t ≡ outcome.Done → new.table ≡ settled b.table t outcome.Released → new.works ≡ b.works
+pub ready-released : (b new : Book) (t v : ℕ) → IsOrderly b → t < length b.table.names → outcome_at b.table.outcomes t ≡ outcome.Done → new.table ≡ settled b.table t outcome.Released → new.in_progress ≡ b.in_progress
     → ready_under (seen_of new) v ≡ ready_under (seen_of b) v
-ready-released b new t v orderly within done table works =
+ready-released b new t v orderly within done table in_progress =
     let outcomes : new.table.outcomes ≡ set b.table.outcomes t outcome.Released = ap (λ (w : Table). w.outcomes) table in
     let submissions : new.table.submissions ≡ b.table.submissions = ap (λ (w : Table). w.submissions) table in
     let here : outcome_at new.table.outcomes t ≡ outcome.Released =
@@ -135,4 +135,4 @@ ready-released b new t v orderly within done table works =
     let inputs = all-each (λ (i : ℕ). is_there (outcome_at new.table.outcomes i) ≡ is_there (outcome_at b.table.outcomes i)) (inputs_of b.table v) (alike is_there refl) in
     ready-alike (seen_of b) (seen_of new) v
     (may-run-alike b.table new.table v (alike is_pending refl v) (ap (λ s. submission_at s v) submissions) inputs)
-    (ap (λ (ws : List (Option ProgressView)). progress_at (seen_of (record b { works = ws })).work v) works)
+    (ap (λ (ws : List (Option ProgressView)). progress_at (seen_of (record b { in_progress = ws })).work v) in_progress)

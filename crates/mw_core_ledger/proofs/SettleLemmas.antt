@@ -26,7 +26,7 @@ pub finished-orderly : (b : Book) (d : WindowTask) (after : ProgressView) → Is
 finished-orderly b d after o f left =
     let at = f.was.at in
     let on = finished-goes_on f.was.progress after _ _ f.finished in
-    with-orderly b d.task.ticket f.was.progress after o (omega (arith, at.within, o.works)) at.work on left
+    with-orderly b d.task.ticket f.was.progress after o (omega (arith, at.within, o.in_progress)) at.work on left
 
 -- its last step is then still no Sum step, where the result is an image
 pub finished-plane : (b : Book) (d : WindowTask) (after : ProgressView) → IsOrderly b → FinishesAt b d after → is_image (shape_at b.table.submissions d.task.ticket) ≡ true
@@ -35,7 +35,7 @@ finished-plane b d after o f image = rw f.finished.plan ((o.planned d.task.ticke
 
 -- the work stands there again
 pub put-back : (old mid : Book) (t : ℕ) (u : ProgressView) → mid ≡ with_work old t None → with_work mid t (Some u) ≡ with_work old t (Some u)
-put-back old mid t u is = ap (λ (b : Book). with_work b t (Some u)) is ∙ ap (λ (ws : List (Option ProgressView)). record old { works = ws }) (set-set old.works t None (Some u))
+put-back old mid t u is = ap (λ (b : Book). with_work b t (Some u)) is ∙ ap (λ (ws : List (Option ProgressView)). record old { in_progress = ws }) (set-set old.in_progress t None (Some u))
 
 -- the same, where the ticket is known by another name
 pub back-at : (old mid : Book) (t s : ℕ) (u : ProgressView) → s ≡ t → mid ≡ with_work old t None → with_work mid s (Some u) ≡ with_work old t (Some u)
@@ -49,7 +49,7 @@ places-at old mid d s after e f is left = record { after = after; finishes = f; 
 pub record IsSettledWith (mid : Book) (t : ℕ) (v : Value) (new : Book) : Type 0 where
   pub table : new.table ≡ settled mid.table t outcome.Done
   pub kept : DropsSpent new.table (set mid.kept t (Some v)) new.kept
-  pub works : new.works ≡ mid.works
+  pub in_progress : new.in_progress ≡ mid.in_progress
   pub log : new.log ≡ mid.log ++ item.Finished t ∷ []
   pub side : new.side ≡ mid.side
 
@@ -64,14 +64,14 @@ settles-at old mid d s after new x v e f is last shaped made told =
     let At : ℕ → Type 0 = λ i. IsSettledWith (with_work old t None) i v new in
     let Of : Value → Type 0 = λ y. IsSettledWith (with_work old t None) t y new in
     let all = subst Of value (subst At e (subst Mid is told)) in
-    record { after = after; finishes = f; last = last; table = all.table; kept = all.kept; works = all.works; log = all.log; side = all.side }
+    record { after = after; finishes = f; last = last; table = all.table; kept = all.kept; in_progress = all.in_progress; log = all.log; side = all.side }
 
 -- ---- the work of a result
 
 -- the work that a look finds is the one that the result is of
-pub work-of : (b : Book) (d : WindowTask) (k : TaskId) (u : ProgressView) (r : IsFitAt b d) → k ≡ d.task → work_at b.works k.ticket ≡ Some u → u ≡ r.progress
+pub work-of : (b : Book) (d : WindowTask) (k : TaskId) (u : ProgressView) (r : IsFitAt b d) → k ≡ d.task → work_at b.in_progress k.ticket ≡ Some u → u ≡ r.progress
 work-of b d k u r e there =
-    let same = ap (λ (i : TaskId). work_at b.works i.ticket) e in
+    let same = ap (λ (i : TaskId). work_at b.in_progress i.ticket) e in
     let work = r.at.work in
     cc
 

@@ -5,7 +5,7 @@ use Rattle.std.proofs.lemmas.List.{get_or-set_same, get_or-set_other, length-set
 use Rattle.mw_model.specs.Refusals.{Table, is_pending, outcome_at}
 use Rattle.mw_core_tasks.specs.mw_core_progress.ProgressView.{ProgressView}
 use Rattle.mw_core_ledger.specs.Books.{work_at}
-use Rattle.mw_core_ledger.specs.Changes.{KeepsWorks}
+use Rattle.mw_core_ledger.specs.Changes.{KeepsInProgress}
 
 -- below t each place holds what it held where the test passes, and from t on all places do
 abbrev pub SweptTo : (ℕ → Bool) → List (Option ProgressView) → List (Option ProgressView) → ℕ → Type 0
@@ -33,7 +33,7 @@ swept-more keeps old now t within false e h = swept-dropped keeps old now t with
 
 -- the work under one ticket is dropped, where no other has any that is not pending
 pub keeps-own : (w : Table) (ws : List (Option ProgressView)) (t : ℕ) → t < length ws → is_pending (outcome_at w.outcomes t) ≡ false
-    → ((k : ℕ) (u : ProgressView) → k ≢ t → work_at ws k ≡ Some u → is_pending (outcome_at w.outcomes k) ≡ true) → KeepsWorks w ws (set ws t None)
+    → ((k : ℕ) (u : ProgressView) → k ≢ t → work_at ws k ≡ Some u → is_pending (outcome_at w.outcomes k) ≡ true) → KeepsInProgress w ws (set ws t None)
 keeps-own w ws t within ended others k =
     elim (cases_eq k t) [
       | inl e ↦

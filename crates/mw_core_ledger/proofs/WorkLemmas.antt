@@ -39,22 +39,22 @@ written-back n ws xs e = rw e (take-append_seam ws xs)
 abbrev pub Runs : ProgressView → TaskId → Type 0
 Runs u k = (k.step < length u.progress.plan) × (k.tile < tile_count u.tiling) × (is_running u.progress (number_of u.progress k.step k.tile) ≡ true)
 
-pub runs-underway : (b : Book) (k : TaskId) (u : ProgressView) → work_at b.works k.ticket ≡ Some u → IsWhole u → Runs u k → IsUnderway (seen_of b) k
+pub runs-underway : (b : Book) (k : TaskId) (u : ProgressView) → work_at b.in_progress k.ticket ≡ Some u → IsWhole u → Runs u k → IsUnderway (seen_of b) k
 runs-underway b k u there whole r =
     let inside : k.tile < length u.progress.tiles = omega (arith, r.1, length-tiles u whole) in
     record {
       progress = u.progress;
       number = number_of u.progress k.step k.tile;
-      work = progress-seen b.works k.ticket u there;
+      work = progress-seen b.in_progress k.ticket u there;
       within = number_of-within u.progress k.step k.tile r.0 inside;
       running = r.2;
       step = sym (step_number-number_of u.progress k.step k.tile inside);
       tile = sym (tile_number-number_of u.progress k.step k.tile inside);
     }
 
-pub underway-runs : (b : Book) (k : TaskId) (u : ProgressView) → work_at b.works k.ticket ≡ Some u → IsWhole u → IsUnderway (seen_of b) k → Runs u k
+pub underway-runs : (b : Book) (k : TaskId) (u : ProgressView) → work_at b.in_progress k.ticket ≡ Some u → IsWhole u → IsUnderway (seen_of b) k → Runs u k
 underway-runs b k u there whole w =
-    let told = progress-seen b.works k.ticket u there in
+    let told = progress-seen b.in_progress k.ticket u there in
     let work = w.work in
     let p = u.progress in
     let n = w.number in
@@ -78,10 +78,10 @@ run-ready true None place l = absurd (omega arith)
 run-ready false o place l = absurd (omega arith)
 
 -- a ready task is one of the work that stands there
-pub ready-there : (b : Book) (t place : ℕ) (u : ProgressView) → work_at b.works t ≡ Some u → place < ready_under (seen_of b) t → place < ready_tasks u.progress
+pub ready-there : (b : Book) (t place : ℕ) (u : ProgressView) → work_at b.in_progress t ≡ Some u → place < ready_under (seen_of b) t → place < ready_tasks u.progress
 ready-there b t place u there ready =
-    let found = run-ready (may_run b.table t) (progress_at (map (option_map progress_of) b.works) t) place ready in
-    let told = progress-seen b.works t u there in
+    let found = run-ready (may_run b.table t) (progress_at (map (option_map progress_of) b.in_progress) t) place ready in
+    let told = progress-seen b.in_progress t u there in
     let is = found.1 in
     let same : found.0 ≡ u.progress = cc in
     rw (← same) found.2
@@ -89,8 +89,8 @@ ready-there b t place u there ready =
 -- its command has a first input
 pub ready-first : (b : Book) (t place : ℕ) (s : Submission) → IsOrderly b → place < ready_under (seen_of b) t → s ≡ submission_at b.table.submissions t → s.inputs.a ≡ None → ⊥
 ready-first b t place s o ready is none =
-    let told = run-ready (may_run b.table t) (progress_at (map (option_map progress_of) b.works) t) place ready in
-    let there = work-shown b.works t told.0 told.1 in
+    let told = run-ready (may_run b.table t) (progress_at (map (option_map progress_of) b.in_progress) t) place ready in
+    let there = work-shown b.in_progress t told.0 told.1 in
     let first = (o.planned t there.0 there.1).input.first in
     let same = ap (λ (e : Submission). e.inputs.a) is in
     absurd cc
@@ -111,19 +111,19 @@ pub takes-at : {E : Type 0} (b : Book) (t image : ℕ) (old : ProgressView) (n :
 takes-at b t image old n new (Ok w) at h = record { before = old; after = new; image = image; number = n; at = at; takes = h; book = refl }
 takes-at b t image old n new (Err e) at h = tt
 
-pub same-at : {E X : Type 0} (b : Book) (t : ℕ) (old new : ProgressView) (r : Result X E) → work_at b.works t ≡ Some old → OnErr r (new ≡ old) → OnErr r (with_work b t (Some new) ≡ b)
+pub same-at : {E X : Type 0} (b : Book) (t : ℕ) (old new : ProgressView) (r : Result X E) → work_at b.in_progress t ≡ Some old → OnErr r (new ≡ old) → OnErr r (with_work b t (Some new) ≡ b)
 same-at b t old new (Ok w) there h = tt
 same-at b t old new (Err e) there h =
-    let works : set b.works t (Some new) ≡ b.works = ap (λ (u : ProgressView). set b.works t (Some u)) h ∙ ap (λ (o : Option ProgressView). set b.works t o) (sym there) ∙ set-get_or b.works t None in
-    ap (λ (ws : List (Option ProgressView)). record b { works = ws }) works
+    let in_progress : set b.in_progress t (Some new) ≡ b.in_progress = ap (λ (u : ProgressView). set b.in_progress t (Some u)) h ∙ ap (λ (o : Option ProgressView). set b.in_progress t o) (sym there) ∙ set-get_or b.in_progress t None in
+    ap (λ (ws : List (Option ProgressView)). record b { in_progress = ws }) in_progress
 
 -- ---- results
 
 -- where a result is one of the work under its ticket, it is one of the work and the image that a look finds there
-pub found-of : (b : Book) (d : WindowTask) (k : TaskId) (image : ℕ) (u : ProgressView) → k ≡ d.task → work_at b.works k.ticket ≡ Some u → (submission_at b.table.submissions k.ticket).inputs.a ≡ Some image → IsWhole u
+pub found-of : (b : Book) (d : WindowTask) (k : TaskId) (image : ℕ) (u : ProgressView) → k ≡ d.task → work_at b.in_progress k.ticket ≡ Some u → (submission_at b.table.submissions k.ticket).inputs.a ≡ Some image → IsWhole u
     → IsFoundAt b d → IsFoundOf (image_of (value_at b.kept image)) u d
 found-of b d k image u is there first whole f =
-    let same = ap (λ (i : TaskId). work_at b.works i.ticket) is in
+    let same = ap (λ (i : TaskId). work_at b.in_progress i.ticket) is in
     let also = ap (λ (i : TaskId). (submission_at b.table.submissions i.ticket).inputs.a) is in
     let work = f.at in
     let read = f.first in
@@ -135,9 +135,9 @@ found-of b d k image u is there first whole f =
 
 -- a result of the work and the image that a look finds is one of the work under its ticket
 pub fit-there : (b : Book) (d : WindowTask) (k : TaskId) (image : ℕ) (u : ProgressView) → k ≡ d.task → d.task.ticket < length b.table.names → outcome_at b.table.outcomes d.task.ticket ≡ outcome.Pending
-    → work_at b.works k.ticket ≡ Some u → (submission_at b.table.submissions k.ticket).inputs.a ≡ Some image → IsWhole u → IsFitOf u d → IsFitAt b d
+    → work_at b.in_progress k.ticket ≡ Some u → (submission_at b.table.submissions k.ticket).inputs.a ≡ Some image → IsWhole u → IsFitOf u d → IsFitAt b d
 fit-there b d k image u is within pending there first whole fit =
-    let Work : TaskId → Type 0 = λ i. work_at b.works i.ticket ≡ Some u in
+    let Work : TaskId → Type 0 = λ i. work_at b.in_progress i.ticket ≡ Some u in
     let First : TaskId → Type 0 = λ i. (submission_at b.table.submissions i.ticket).inputs.a ≡ Some image in
     record {
       progress = u;
@@ -148,7 +148,7 @@ fit-there b d k image u is within pending there first whole fit =
     }
 
 pub result-there : (b : Book) (d : WindowTask) (k : TaskId) (image : ℕ) (u : ProgressView) → k ≡ d.task → d.task.ticket < length b.table.names → outcome_at b.table.outcomes d.task.ticket ≡ outcome.Pending
-    → work_at b.works k.ticket ≡ Some u → (submission_at b.table.submissions k.ticket).inputs.a ≡ Some image → IsWhole u → IsResultOf (image_of (value_at b.kept image)) u d → IsResultAt b d
+    → work_at b.in_progress k.ticket ≡ Some u → (submission_at b.table.submissions k.ticket).inputs.a ≡ Some image → IsWhole u → IsResultOf (image_of (value_at b.kept image)) u d → IsResultAt b d
 unfolding fit-there
 result-there b d k image u is within pending there first whole r =
     record { fits = fit-there b d k image u is within pending there first whole r.fit; task = r.task }

@@ -18,14 +18,14 @@ use Rattle.mw_core_tasks.specs.Planning.{IsPlannedAt}
 pub record Book : Type 0 where
   pub table : Table
   pub kept : List (Option Value)
-  pub works : List (Option ProgressView)
+  pub in_progress : List (Option ProgressView)
   pub log : List LogItem
   pub side : ℕ
   pub room : ℕ
 
 -- the work under a ticket, if there is any
 abbrev pub work_at : List (Option ProgressView) → ℕ → Option ProgressView
-work_at works t = slice_index_or works t None
+work_at in_progress t = slice_index_or in_progress t None
 
 -- what is known of the tasks of work, without its planes
 abbrev pub progress_of : ProgressView → Progress
@@ -33,7 +33,7 @@ progress_of u = u.progress
 
 -- what a core shows of it
 abbrev pub seen_of : Book → CoreView
-seen_of b = record { table = b.table; kept = b.kept; work = map (option_map progress_of) b.works; log = b.log; side = b.side }
+seen_of b = record { table = b.table; kept = b.kept; work = map (option_map progress_of) b.in_progress; log = b.log; side = b.side }
 
 -- the part that its store shows
 abbrev pub stored_in : Book → Stored
@@ -41,7 +41,7 @@ stored_in b = record { table = b.table; kept = b.kept }
 
 -- nothing was accepted yet
 abbrev pub empty_book : ℕ → Book
-empty_book side = record { table = record { names = []; submissions = []; outcomes = [] }; kept = []; works = []; log = []; side = side; room = 16 }
+empty_book side = record { table = record { names = []; submissions = []; outcomes = [] }; kept = []; in_progress = []; log = []; side = side; room = 16 }
 
 -- the places of a log that no item has, and that are not kept for the ends of pending entries
 abbrev pub room_in : ℕ → ℕ → List Outcome → ℕ
@@ -50,10 +50,10 @@ room_in capacity len outcomes = capacity - (len + count_by is_pending outcomes)
 -- The store is whole, each shape is within the limits, there is a place for work with each name, and what stands there is under a pending ticket, is planned for it, is not finished, and has at most 4,194,304 tasks.
 pub record IsOrderly (b : Book) : Type 0 where
   pub stored : StoreIsWhole (stored_in b)
-  pub works : length b.works ≡ length b.table.names
+  pub in_progress : length b.in_progress ≡ length b.table.names
   pub fits : ShapesFit b.table
-  pub under : (t : ℕ) (u : ProgressView) → work_at b.works t ≡ Some u → outcome_at b.table.outcomes t ≡ outcome.Pending
-  pub planned : (t : ℕ) (u : ProgressView) → work_at b.works t ≡ Some u → IsPlannedAt b.table t u
-  pub left : (t : ℕ) (u : ProgressView) → work_at b.works t ≡ Some u → 1 ≤ remaining_tasks u.progress
-  pub most : (t : ℕ) (u : ProgressView) → work_at b.works t ≡ Some u → task_count u.progress ≤ TASK_LIMIT
+  pub under : (t : ℕ) (u : ProgressView) → work_at b.in_progress t ≡ Some u → outcome_at b.table.outcomes t ≡ outcome.Pending
+  pub planned : (t : ℕ) (u : ProgressView) → work_at b.in_progress t ≡ Some u → IsPlannedAt b.table t u
+  pub left : (t : ℕ) (u : ProgressView) → work_at b.in_progress t ≡ Some u → 1 ≤ remaining_tasks u.progress
+  pub most : (t : ℕ) (u : ProgressView) → work_at b.in_progress t ≡ Some u → task_count u.progress ≤ TASK_LIMIT
   pub side : IsTileSide b.side

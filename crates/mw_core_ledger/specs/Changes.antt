@@ -21,12 +21,12 @@ abbrev pub with_accepted : Book → Call → Name → Entry → Option ProgressV
 with_accepted b c n e u room = record {
   table = with_entry b.table n (submission_of e) (outcome_of e);
   kept = b.kept ++ payload_in e ∷ [];
-  works = b.works ++ u ∷ [];
+  in_progress = b.in_progress ++ u ∷ [];
   log = b.log ++ item.Call c (reply.Accepted (length b.table.names)) ∷ [];
   side = b.side;
   room = room;
 }
 
 -- the work under each ticket that is pending stays, and no other has any
-abbrev pub KeepsWorks : Table → List (Option ProgressView) → List (Option ProgressView) → Type 0
-KeepsWorks w old new = (t : ℕ) → work_at new t ≡ (if is_pending (outcome_at w.outcomes t) then work_at old t else None)
+abbrev pub KeepsInProgress : Table → List (Option ProgressView) → List (Option ProgressView) → Type 0
+KeepsInProgress w old new = (t : ℕ) → work_at new t ≡ (if is_pending (outcome_at w.outcomes t) then work_at old t else None)

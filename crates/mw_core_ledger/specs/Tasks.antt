@@ -22,7 +22,7 @@ use Rattle.mw_core_ledger.specs.Books.{Book, work_at}
 -- There is work under the ticket, on the image under the first of its inputs.
 pub record IsAtWork (b : Book) (t : ℕ) (u : ProgressView) (image : ℕ) : Type 0 where
   pub within : t < length b.table.names
-  pub work : work_at b.works t ≡ Some u
+  pub work : work_at b.in_progress t ≡ Some u
   pub whole : IsWhole u
   pub first : (submission_at b.table.submissions t).inputs.a ≡ Some image
 
@@ -34,7 +34,7 @@ pub record TakesAt (old : Book) (t : ℕ) (new : Book) (w : Option WindowTask) :
   pub number : ℕ
   pub at : IsAtWork old t before image
   pub takes : Takes (image_of (value_at old.kept image)) t before number after w
-  pub book : new ≡ record old { works = slice_set old.works t (Some after) }
+  pub book : new ≡ record old { in_progress = slice_set old.in_progress t (Some after) }
 
 -- The result is that of a running task under a pending ticket but for what its windows show, and what was made of it fits its place.
 pub record IsFitAt (b : Book) (d : WindowTask) : Type 0 where
@@ -54,7 +54,7 @@ pub record IsFoundAt (b : Book) (d : WindowTask) : Type 0 where
   pub progress : ProgressView
   pub image : ℕ
   pub within : d.task.ticket < length b.table.names
-  pub at : work_at b.works d.task.ticket ≡ Some progress
+  pub at : work_at b.in_progress d.task.ticket ≡ Some progress
   pub first : (submission_at b.table.submissions d.task.ticket).inputs.a ≡ Some image
   pub pending : outcome_at b.table.outcomes d.task.ticket ≡ outcome.Pending
   pub found : IsWhole progress → IsFoundOf (image_of (value_at b.kept image)) progress d
@@ -72,7 +72,7 @@ pub record PlacesAt (old : Book) (d : WindowTask) (new : Book) : Type 0 where
   pub after : ProgressView
   pub finishes : FinishesAt old d after
   pub left : 1 ≤ remaining_tasks after.progress
-  pub book : new ≡ record old { works = slice_set old.works d.task.ticket (Some after) }
+  pub book : new ≡ record old { in_progress = slice_set old.in_progress d.task.ticket (Some after) }
 
 -- the value that finished work has made: of an image the plane of its last step, of a curve its numbers
 abbrev pub value_made : Shape → ProgressView → Value
@@ -86,6 +86,6 @@ pub record SettlesAt (old : Book) (d : WindowTask) (new : Book) : Type 0 where
   pub last : remaining_tasks after.progress ≡ 0
   pub table : new.table ≡ settled old.table d.task.ticket outcome.Done
   pub kept : DropsSpent new.table (slice_set old.kept d.task.ticket (Some (value_made (shape_at old.table.submissions d.task.ticket) after))) new.kept
-  pub works : new.works ≡ slice_set old.works d.task.ticket None
+  pub in_progress : new.in_progress ≡ slice_set old.in_progress d.task.ticket None
   pub log : new.log ≡ old.log ++ item.Finished d.task.ticket ∷ []
   pub side : new.side ≡ old.side

@@ -24,7 +24,7 @@ impl Ledger {
     ghost use Rattle.mw_core_tasks.specs.Planning.{IsPlannedOn};
     ghost use Rattle.mw_core_ledger.specs.Short.{is_long};
     ghost use Rattle.mw_core_ledger.specs.Books.{seen_of};
-    ghost use Rattle.mw_core_ledger.specs.Changes.{KeepsWorks, noted, with_accepted};
+    ghost use Rattle.mw_core_ledger.specs.Changes.{KeepsInProgress, noted, with_accepted};
     ghost use Rattle.mw_core_tasks.specs.mw_core_laws.Rows.{IsLogFull};
 
     /// Adds the item of a call that changes no entry. Memory is wanting only where the log has no room, or the item needs a
@@ -68,10 +68,10 @@ impl Ledger {
         let next = self.store.len();
         let item = Compact::new(self.alloc, LogItem::Call(call, Reply::Accepted(next)))?;
         make_places(&mut self.log, self.store.pending() + 2)?;
-        reserve_row(&mut self.works)?;
+        reserve_row(&mut self.in_progress)?;
         let t = self.store.add(name, entry)?;
         let _whole = self.store.pending();
-        self.works.push_reserved(progress);
+        self.in_progress.push_reserved(progress);
         self.log.push_reserved(item);
         Ok(t)
     }
@@ -85,8 +85,8 @@ impl Ledger {
         ensures table { self.new.table ≡ killed self.old.table t cause }
         ensures alone { is_wanted self.old.table t ≡ false → self.new.table ≡ settled self.old.table t cause }
         ensures kept { DropsSpent self.new.table self.old.kept self.new.kept }
-        ensures works { KeepsWorks self.new.table self.old.works self.new.works }
-        ensures own { is_wanted self.old.table t ≡ false → self.new.works ≡ slice_set self.old.works t None }
+        ensures in_progress { KeepsInProgress self.new.table self.old.in_progress self.new.in_progress }
+        ensures own { is_wanted self.old.table t ≡ false → self.new.in_progress ≡ slice_set self.old.in_progress t None }
         ensures log { self.new.log ≡ self.old.log ++ item ∷ [] }
         ensures side { self.new.side ≡ self.old.side }
     {
@@ -94,7 +94,7 @@ impl Ledger {
         let wanted = self.store.is_wanted(t);
         self.store.kill(t, cause);
         let _whole = self.store.pending();
-        drop_ended(&self.store, &mut self.works, t, wanted);
+        drop_ended(&self.store, &mut self.in_progress, t, wanted);
         self.log.push_reserved(item);
     }
 
@@ -104,7 +104,7 @@ impl Ledger {
         requires done { outcome_at self.old.table.outcomes t ≡ Outcome.Done }
         ensures table { OnOk result (self.new.table ≡ settled self.old.table t Outcome.Released) }
         ensures kept { OnOk result (DropsSpent self.new.table self.old.kept self.new.kept) }
-        ensures works { OnOk result (self.new.works ≡ self.old.works) }
+        ensures in_progress { OnOk result (self.new.in_progress ≡ self.old.in_progress) }
         ensures log { OnOk result (self.new.log ≡ self.old.log ++ item ∷ []) }
         ensures side { self.new.side ≡ self.old.side }
         ensures err { OnErr result (self.new ≡ self.old) }

@@ -19,7 +19,7 @@ impl Ledger {
         if !self.store.outcome(t).is_pending() || !self.store.inputs_there(t) {
             return 0;
         }
-        match &self.works[t as usize] {
+        match &self.in_progress[t as usize] {
             Some(progress) => progress.ready(),
             None => 0,
         }
@@ -31,7 +31,7 @@ impl Ledger {
         ensures value { result ≡ running_under (seen_of self.now) t }
         ensures small { result ≤ TASK_LIMIT }
     {
-        match &self.works[t as usize] {
+        match &self.in_progress[t as usize] {
             Some(progress) => progress.running(),
             None => 0,
         }
@@ -45,7 +45,7 @@ impl Ledger {
         if t >= self.store.len() {
             return None;
         }
-        match &self.works[t as usize] {
+        match &self.in_progress[t as usize] {
             Some(progress) => Some(u64::from(progress.remaining())),
             None => None,
         }

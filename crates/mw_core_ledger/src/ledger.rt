@@ -12,7 +12,7 @@ use std::marker::Model;
 #[derive(Drop)]
 pub struct Ledger {
     pub(crate) store: Store,
-    pub(crate) works: Vec<Option<PlanProgress>>,
+    pub(crate) in_progress: Vec<Option<PlanProgress>>,
     pub(crate) log: Vec<Compact>,
     pub(crate) side: u32,
     pub(crate) alloc: Global,
@@ -29,7 +29,7 @@ impl Model for Ledger {
     ghost view = { λ l. record {
       table = l.store.table;
       kept = l.store.kept;
-      works = l.works.items;
+      in_progress = l.in_progress.items;
       log = l.log.items;
       side = l.side;
       room = room_in (vec_capacity l.log) (vec_len l.log) l.store.table.outcomes;
@@ -38,11 +38,11 @@ impl Model for Ledger {
     // Each pending entry has a place in the log for its end, and places are made by rows.
     ghost invariant = { λ l. ((vec_len l.log + count_by is_pending l.store.table.outcomes ≤ vec_capacity l.log)
         × (vec_capacity l.log % 16 ≡ 0)
-        × HasRow (vec_len l.works) (vec_capacity l.works))
+        × HasRow (vec_len l.in_progress) (vec_capacity l.in_progress))
         × IsOrderly (record {
           table = l.store.table;
           kept = l.store.kept;
-          works = l.works.items;
+          in_progress = l.in_progress.items;
           log = l.log.items;
           side = l.side;
           room = room_in (vec_capacity l.log) (vec_len l.log) l.store.table.outcomes;
@@ -61,7 +61,7 @@ impl Ledger {
     {
         Ok(Ledger {
             store: Store::new(alloc)?,
-            works: Vec::with_capacity(alloc, 16)?,
+            in_progress: Vec::with_capacity(alloc, 16)?,
             log: Vec::with_capacity(alloc, 16)?,
             side,
             alloc,

@@ -1,5 +1,5 @@
 //! The ledger: entries, the work under each pending ticket, and the log; and beside it how many tasks are ready and running.
-//! Each change is said in plain equations, beside any machine. Which machine that is, the core says.
+//! Each change is said by equations, beside any machine. Which machine that is, the core says.
 //!
 //! The numbers of ready tasks by ticket stand in a tree of sums, which a change of one ticket's work mends on one way to its
 //! root, with no pass over the entries. Only a kill counts anew.

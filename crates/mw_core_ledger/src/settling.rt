@@ -43,14 +43,14 @@ impl Ledger {
     fn finished(&mut self, done: TileDone) -> PlanProgress
         requires { IsFitAt self.old done }
         ensures finishes { FinishesAt self.old done result }
-        ensures book { self.new ≡ record self.old { works = slice_set self.old.works done.task.ticket None } }
-        ensures order { 1 ≤ remaining_tasks result.progress → IsOrderly (record self.old { works = slice_set self.old.works done.task.ticket (Some result) }) }
+        ensures book { self.new ≡ record self.old { in_progress = slice_set self.old.in_progress done.task.ticket None } }
+        ensures order { 1 ≤ remaining_tasks result.progress → IsOrderly (record self.old { in_progress = slice_set self.old.in_progress done.task.ticket (Some result) }) }
         ensures plane { is_image (shape_at self.old.table.submissions done.task.ticket) ≡ true → is_sum (slice_index_or result.progress.plan (length result.progress.plan - 1) nothing_planned).step ≡ false }
     {
         let task = done.task();
         // They fit the step, as a fact of the result.
         let _windows = done.windows();
-        let Some(mut progress) = self.works[task.ticket as usize].take() else {
+        let Some(mut progress) = self.in_progress[task.ticket as usize].take() else {
             unreachable!()
         };
         progress.finish(task.step, task.tile, done.into_made());
@@ -61,10 +61,10 @@ impl Ledger {
     fn settle(&mut self, t: u32, value: StoredValue) -> Waiters
         requires within { t < length self.old.table.names }
         requires pending { outcome_at self.old.table.outcomes t ≡ Outcome.Pending }
-        requires empty { work_at self.old.works t ≡ None }
+        requires empty { work_at self.old.in_progress t ≡ None }
         ensures table { self.new.table ≡ settled self.old.table t Outcome.Done }
         ensures kept { DropsSpent self.new.table (slice_set self.old.kept t (Some (kept_value value))) self.new.kept }
-        ensures works { self.new.works ≡ self.old.works }
+        ensures in_progress { self.new.in_progress ≡ self.old.in_progress }
         ensures log { self.new.log ≡ self.old.log ++ LogItem.Finished t ∷ [] }
         ensures side { self.new.side ≡ self.old.side }
         ensures waiting { (u : ℕ) → u < length self.old.table.names → (is_pending (outcome_at self.old.table.outcomes u) && list_any (nat_eq t) (inputs_of self.old.table u)) ≡ true → list_any (nat_eq u) result ≡ true }
@@ -90,7 +90,7 @@ impl Ledger {
         let t = done.task().ticket;
         let progress = self.finished(done);
         if progress.remaining() > 0 {
-            self.works[t as usize] = Some(progress);
+            self.in_progress[t as usize] = Some(progress);
             return None;
         }
         let value = value_of(self.store.shape(t), progress);

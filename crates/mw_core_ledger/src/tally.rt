@@ -97,7 +97,7 @@ impl Counts {
     pub fn follow(&mut self, ledger: &Ledger, t: u32, was: u32)
         requires within { t < length ledger.now.table.names }
         requires count { length self.old.ready ≡ length ledger.now.table.names }
-        ensures { (b : Book) (x : Option ProgressView) → IsOrderly b → AreCounts (seen_of b) self.old → ledger.now ≡ record b { works = slice_set b.works t x } → was ≡ running_under (seen_of b) t
+        ensures { (b : Book) (x : Option ProgressView) → IsOrderly b → AreCounts (seen_of b) self.old → ledger.now ≡ record b { in_progress = slice_set b.in_progress t x } → was ≡ running_under (seen_of b) t
             → AreCounts (seen_of ledger.now) self.new }
     {
         self.count(ledger, t, was);
@@ -123,7 +123,7 @@ impl Counts {
         requires within { t < length ledger.now.table.names }
         requires count { length self.old.ready ≡ length ledger.now.table.names }
         ensures { (b : Book) (o : Outcome) → IsOrderly b → AreCounts (seen_of b) self.old → wanted ≡ is_wanted b.table t → (is_wanted b.table t ≡ false → ledger.now.table ≡ settled b.table t o)
-            → (is_wanted b.table t ≡ false → ledger.now.works ≡ slice_set b.works t None) → was ≡ running_under (seen_of b) t → AreCounts (seen_of ledger.now) self.new }
+            → (is_wanted b.table t ≡ false → ledger.now.in_progress ≡ slice_set b.in_progress t None) → was ≡ running_under (seen_of b) t → AreCounts (seen_of ledger.now) self.new }
     {
         if wanted {
             self.recount(ledger);

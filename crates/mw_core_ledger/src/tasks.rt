@@ -37,7 +37,7 @@ impl Ledger {
             unreachable!()
         };
         let alloc = self.alloc;
-        match &mut self.works[t as usize] {
+        match &mut self.in_progress[t as usize] {
             Some(progress) => {
                 let _whole = progress.remaining();
                 begin(alloc, &self.store, image, t, progress, place)
@@ -75,7 +75,7 @@ impl Ledger {
         let Some(image) = self.store.submission(t).inputs.a else {
             return false;
         };
-        match &self.works[t as usize] {
+        match &self.in_progress[t as usize] {
             Some(progress) => {
                 let _whole = progress.remaining();
                 is_result(&self.store, image, progress, done)
@@ -96,7 +96,7 @@ impl Ledger {
         let Some(_image) = self.store.submission(t).inputs.a else {
             return false;
         };
-        match &self.works[t as usize] {
+        match &self.in_progress[t as usize] {
             Some(progress) => {
                 let _whole = progress.remaining();
                 is_fit(progress, done)
@@ -110,7 +110,7 @@ impl Ledger {
         requires { task.ticket < length self.now.table.names }
         ensures { IsTrue result ↔ IsUnderway (seen_of self.now) task }
     {
-        match &self.works[task.ticket as usize] {
+        match &self.in_progress[task.ticket as usize] {
             Some(progress) => {
                 let _whole = progress.remaining();
                 progress.is_running(task.step, task.tile)

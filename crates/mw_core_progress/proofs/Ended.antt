@@ -28,7 +28,7 @@ sizes_are plan input g turns places whole =
 -- the place of the last step is that of a plane
 pub last_form : (plan : Plan) (input : Level) (g : Tiling) (turns : Turns) (places : List StepPlane) → IsWhole (underway_kept plan input g turns places) → IsPlaced plan g turns.board.started places
     → remaining_tasks (underway_kept plan input g turns places).progress ≡ 0 → is_sum (get_or plan (length plan - 1) nothing_planned).step ≡ false → form (place_at places (length plan - 1)) ≡ 1
-last_form plan input g turns places whole placed none plain =
+last_form plan input g turns places whole placed none unsummed =
     let m = tile_count g in
     let k = length plan - 1 in
     let n = k * m + 0 in
@@ -37,7 +37,7 @@ last_form plan input g turns places whole placed none plain =
     let k-lt : k < length plan = omega arith in
     let n-lt : n < length plan * length (tiles_of g) = subst (λ (c : ℕ). n < length plan * c) (sym (length-tiles_of g)) (number_of_cell (length plan) m 0 k (some_tiles g) k-lt) in
     let done : flag finished n ≡ true = true_from_ne_false (flag finished n) (λ e. absurd (omega (arith, none, count_by-some (λ j. not (flag finished j)) (length plan * length (tiles_of g)) n n-lt (ap not e)))) in
-    is_plane (form (place_at places k)) (is_sum (get_or plan k nothing_planned).step) plain (placed.forms k k-lt) (placed.opened k 0 k-lt (some_tiles g) (whole.begun n done)) (form_most (place_at places k))
+    is_plane (form (place_at places k)) (is_sum (get_or plan k nothing_planned).step) unsummed (placed.forms k k-lt) (placed.opened k 0 k-lt (some_tiles g) (whole.begun n done)) (form_most (place_at places k))
 
 some_same : (a b : StepPlane) → Some a ≡ Some b → a ≡ b
 some_same a b e = cc

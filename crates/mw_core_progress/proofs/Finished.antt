@@ -42,11 +42,11 @@ is_step-below (x ∷ xs) s j all e = elim (or_cases (is_step j x) (list_any (is_
     one (FromInput i) at e = absurd (no_step e)
     one (FromStep i) at e = subst (λ (k : ℕ). k < s) (eqb-true i j e) at
 
-is_step-plain : (plan : Plan) (read : List Source) (j : ℕ) → AllByRecursion (IsPlaneSource plan) read → list_any (is_step j) read ≡ true → is_sum (get_or plan j nothing_planned).step ≡ false
-is_step-plain plan [] j all e = absurd (no_step e)
-is_step-plain plan (x ∷ xs) j all e = elim (or_cases (is_step j x) (list_any (is_step j) xs) e) [
+is_step-unsummed : (plan : Plan) (read : List Source) (j : ℕ) → AllByRecursion (IsPlaneSource plan) read → list_any (is_step j) read ≡ true → is_sum (get_or plan j nothing_planned).step ≡ false
+is_step-unsummed plan [] j all e = absurd (no_step e)
+is_step-unsummed plan (x ∷ xs) j all e = elim (or_cases (is_step j x) (list_any (is_step j) xs) e) [
   | inl here ↦ one x all.0 here
-  | inr later ↦ is_step-plain plan xs j all.1 later
+  | inr later ↦ is_step-unsummed plan xs j all.1 later
 ]
   where
     one : (x : Source) → IsPlaneSource plan x → is_step j x ≡ true → is_sum (get_or plan j nothing_planned).step ≡ false
@@ -57,8 +57,8 @@ is_step-plain plan (x ∷ xs) j all e = elim (or_cases (is_step j x) (list_any (
 pub read_before : (plan : Plan) (input : Level) (s j : ℕ) → IsWorkable plan input → list_any (is_step j) (get_or plan s nothing_planned).sources ≡ true → j < s
 read_before plan input s j workable e = is_step-below (get_or plan s nothing_planned).sources s j (workable.sources s) e
 
-pub read_plain : (plan : Plan) (input : Level) (s j : ℕ) → IsWorkable plan input → list_any (is_step j) (get_or plan s nothing_planned).sources ≡ true → is_sum (get_or plan j nothing_planned).step ≡ false
-read_plain plan input s j workable e = is_step-plain plan (get_or plan s nothing_planned).sources j (workable.planes s) e
+pub read_unsummed : (plan : Plan) (input : Level) (s j : ℕ) → IsWorkable plan input → list_any (is_step j) (get_or plan s nothing_planned).sources ≡ true → is_sum (get_or plan j nothing_planned).step ≡ false
+read_unsummed plan input s j workable e = is_step-unsummed plan (get_or plan s nothing_planned).sources j (workable.planes s) e
 
 -- ---- what a finish leaves
 
@@ -107,8 +107,8 @@ read_by p n k lt unfinished read = list_any-range (λ u. not (flag p.finished u)
     both : (f r : Bool) → f ≡ false → r ≡ true → not f && r ≡ true
     both f r ef er = ap (λ (b : Bool). not b && r) ef ∙ er
 
-needed-plain : (a b r : Bool) → a ≡ false → b ≡ false → a || b || r ≡ r
-needed-plain a b r ea eb = ap (λ (x : Bool). x || b || r) ea ∙ ap (λ (x : Bool). false || x || r) eb
+needed-unsummed : (a b r : Bool) → a ≡ false → b ≡ false → a || b || r ≡ r
+needed-unsummed a b r ea eb = ap (λ (x : Bool). x || b || r) ea ∙ ap (λ (x : Bool). false || x || r) eb
 
 pub finish_needed : (p : Progress) (input : Level) (n : ℕ) (cells : List ℕ) (q : List (Option (List ℕ))) → IsWorkable p.plan input → 0 < length p.tiles → n < task_count p → length p.finished ≡ task_count p
     → flag p.finished n ≡ false → KeepsNeeded p → Settles p n cells q → KeepsNeeded (finished_with p n q)
@@ -133,20 +133,20 @@ finish_needed p input n cells q workable some lt size unfinished needed settles 
         ne_eqb (step_number p k + 1) (length p.plan) (λ e. absurd (omega arith))
 
     no_sum : reads p n k ≡ true → is_sum (planned_of p k).step ≡ false
-    no_sum read = read_plain p.plan input (step_number p n) (step_number p k) workable (read_of read)
+    no_sum read = read_unsummed p.plan input (step_number p n) (step_number p k) workable (read_of read)
 
     by_need : (d : Bool) → is_read_in (finished_with p n q) k ≡ d → k ≢ n → reads p n k ≡ true → IsKept (get_or q k None) (flag (set p.finished n true) k) (is_needed (finished_with p n q) k)
     by_need true still other read =
         kept-same (get_or q k None) (get_or p.placed k None) (flag (set p.finished n true) k) (flag p.finished k) (is_needed (finished_with p n q) k) (is_needed p k)
         (settles.others k k-lt other ∙ ap (λ (b : Bool). cond (reads p n k && not b) None (get_or p.placed k None)) still ∙ ap (λ (b : Bool). cond b None (get_or p.placed k None)) (and_right (reads p n k) false refl))
         (marked other)
-        (needed-plain (nat_eq (step_number p k + 1) (length p.plan)) (is_sum (planned_of p k).step) (is_read_in (finished_with p n q) k) (not_last read) (no_sum read) ∙ still
+        (needed-unsummed (nat_eq (step_number p k + 1) (length p.plan)) (is_sum (planned_of p k).step) (is_read_in (finished_with p n q) k) (not_last read) (no_sum read) ∙ still
         ∙ sym (or_right (nat_eq (step_number p k + 1) (length p.plan) || is_sum (planned_of p k).step) (is_read_in p k) (read_by p n k lt unfinished read)))
         (needed k k-lt)
     by_need false dropped other read =
         kept-dropped (get_or q k None) (flag (set p.finished n true) k) (is_needed (finished_with p n q) k)
         (settles.others k k-lt other ∙ ap (λ (b : Bool). cond (reads p n k && not b) None (get_or p.placed k None)) dropped ∙ ap (λ (b : Bool). cond (b && true) None (get_or p.placed k None)) read)
-        (needed-plain (nat_eq (step_number p k + 1) (length p.plan)) (is_sum (planned_of p k).step) (is_read_in (finished_with p n q) k) (not_last read) (no_sum read) ∙ dropped)
+        (needed-unsummed (nat_eq (step_number p k + 1) (length p.plan)) (is_sum (planned_of p k).step) (is_read_in (finished_with p n q) k) (not_last read) (no_sum read) ∙ dropped)
 
     by_reading : k ≢ n → (r : Bool) → reads p n k ≡ r → IsKept (get_or q k None) (flag (set p.finished n true) k) (is_needed (finished_with p n q) k)
     by_reading other true read = by_need (is_read_in (finished_with p n q) k) refl other read

@@ -28,7 +28,7 @@ use Rattle.mw_core_progress.proofs.Boarded.{IsTied, same_work}
 use Rattle.mw_core_progress.proofs.Cells.{HasCount, all_counted, cells_at, cells_of_task}
 use Rattle.mw_core_progress.proofs.Opened.{shown_at}
 use Rattle.mw_core_progress.proofs.Placing.{not_placed}
-use Rattle.mw_core_progress.proofs.Finished.{read_before, read_plain, any-same_below, finished_with, is_read_in, Settles, SameFrames}
+use Rattle.mw_core_progress.proofs.Finished.{read_before, read_unsummed, any-same_below, finished_with, is_read_in, Settles, SameFrames}
 
 abbrev no_cells : Option (List ℕ)
 no_cells = None
@@ -249,7 +249,7 @@ read_places plan input g turns places step k need whole boarded placed within ne
     let early : k < step = read_before plan input step k whole.workable named in
     let size : length (planes_shown g places) ≡ length plan = whole.planes in (
       omega (arith, size, length-map places (shown g)),
-      subst (λ (b : Bool). IsFormOf b (form (place_at places k))) (read_plain plan input step k whole.workable named) (placed.forms k (omega arith)),
+      subst (λ (b : Bool). IsFormOf b (form (place_at places k))) (read_unsummed plan input step k whole.workable named) (placed.forms k (omega arith)),
     )
 
 put-true : (g : Tiling) (swept : List StepPlane) (step tile : ℕ) (cells : List ℕ) (p : StepPlane) → shown g p ≡ placed_in (shown g (place_at swept step)) tile cells

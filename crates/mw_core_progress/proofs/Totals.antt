@@ -30,8 +30,8 @@ more_sum plan g places k old new n lt size before sums n-is new-is =
 
 pub more_none : (plan : Plan) (g : Tiling) (places : List StepPlane) (k : ℕ) (old : List ℕ) → k < length plan → length plan ≡ length places → old ++ numbers_of (drop k plan) (planes_shown g (drop k places)) ≡ numbers_of plan (planes_shown g places)
     → is_sum (get_or plan k nothing_planned).step ≡ false → old ++ numbers_of (drop (k + 1) plan) (planes_shown g (drop (k + 1) places)) ≡ numbers_of plan (planes_shown g places)
-more_none plan g places k old lt size before plain =
+more_none plan g places k old lt size before unsummed =
     let rest = numbers_of (drop (k + 1) plan) (planes_shown g (drop (k + 1) places)) in
-    ap (λ (b : Bool). old ++ with_number b (number_in (shown g (place_at places k))) rest) (sym plain)
+    ap (λ (b : Bool). old ++ with_number b (number_in (shown g (place_at places k))) rest) (sym unsummed)
     ∙ ap (λ (xs : List ℕ). old ++ xs) (sym (numbers_more plan g places k lt size))
     ∙ before

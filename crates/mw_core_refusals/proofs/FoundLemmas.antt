@@ -22,11 +22,11 @@ use Rattle.mw_model.specs.Elements.{holds_origin, overlaps}
 use Rattle.mw_model.specs.Values.{Value, offsets_in, tickets, value_at}
 use Rattle.mw_model.specs.Refusals.{Table, Wanted, AnImage, AnElement, binary_case, first_of, inputs_wanted, is_element, is_image, name_taken, no_inputs, no_room, offsets_at, op_cases, param_case, refusal, shape_at, ticket_of, wanted_case, when}
 use Rattle.mw_model.specs.Machine.{inputs_from, run_submission, shape_of_result, ticket_wanted}
-use Rattle.mw_plan.specs.declared.inputs.Input.{Input}
-use Rattle.mw_plan.specs.declared.inputs.Input.TheVariants as input
-use Rattle.mw_plan.specs.Asked.{fault_in, offsets_of_input, shape_made}
-use Rattle.mw_plan.specs.Faults.{plan_code}
-use Rattle.mw_plan.specs.Tables.{AreEntries, HasShape, IsEntry}
+use Rattle.mw_store.specs.mw_plan.declared.inputs.Input.{Input}
+use Rattle.mw_store.specs.mw_plan.declared.inputs.Input.TheVariants as input
+use Rattle.mw_store.specs.mw_plan.Asked.{fault_in, offsets_of_input, shape_made}
+use Rattle.mw_store.specs.mw_plan.Faults.{plan_code}
+use Rattle.mw_store.specs.mw_plan.Tables.{AreEntries, HasShape, IsEntry}
 use Rattle.mw_store.proofs.mw_plan.Refused.{run_refused, shape_same}
 use Rattle.mw_store.proofs.mw_model_laws.RunTables.{inputs_all, ticket_is, wanted_within}
 use Rattle.mw_store.specs.Stored.{Stored}

@@ -4,10 +4,10 @@ use Rattle.mw_model.specs.declared.names.Name.{Name}
 use Rattle.mw_model.specs.declared.submissions.Inputs.{Inputs}
 use Rattle.mw_model.specs.Values.{offsets_in, value_at}
 use Rattle.mw_model.specs.Refusals.{Wanted, AnImage, AnElement, is_dead, is_element, is_image, is_released, outcome_at, shape_at, ticket_of}
-use Rattle.mw_plan.specs.declared.inputs.Input.{Input}
-use Rattle.mw_plan.specs.declared.inputs.Input.TheVariants as input
-use Rattle.mw_plan.specs.Asked.{is_element_input, offsets_of_input}
-use Rattle.mw_plan.specs.Tables.{HasShape, IsInputAt}
+use Rattle.mw_store.specs.mw_plan.declared.inputs.Input.{Input}
+use Rattle.mw_store.specs.mw_plan.declared.inputs.Input.TheVariants as input
+use Rattle.mw_store.specs.mw_plan.Asked.{is_element_input, offsets_of_input}
+use Rattle.mw_store.specs.mw_plan.Tables.{HasShape, IsInputAt}
 use Rattle.mw_store.specs.Stored.{Stored}
 
 -- The name has this ticket, whose entry is neither dead nor released; and the input is what a plan is told of it.

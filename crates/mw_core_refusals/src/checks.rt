@@ -5,7 +5,7 @@ ghost use Rattle.std.specs.List.{AllByRecursion};
 ghost use Rattle.mw_model.specs.Values.{tickets};
 ghost use Rattle.mw_model.specs.Refusals.{refusal, name_taken, no_room, input_case, inputs_wanted, is_image, is_element, ticket_of, ticket, outcome_at, AnImage, AnElement};
 ghost use Rattle.mw_model.specs.Machine.{run_submission, reply_from, status_reply};
-ghost use Rattle.mw_plan.specs.Asked.{fault_in};
+ghost use Rattle.mw_store.specs.mw_plan.Asked.{fault_in};
 ghost use Rattle.mw_core_refusals.specs.Checks.{refused, state_case, inputs_case};
 ghost use Rattle.mw_core_refusals.specs.Found.{AreFound, IsFoundElement, IsFoundImage};
 
@@ -13,7 +13,7 @@ use mw_model::{
     Call, Code, Command, ENTRY_LIMIT, FlatOp, Given, GranOp, Inputs, Name, Op, Outcome, Reply,
     Shape, Submission,
 };
-use mw_plan::{Input, shape_of};
+use mw_store::plan::{Input, shape_of};
 use mw_store::{ResolvedRun, Store};
 
 fn free(store: &Store, name: Name) -> Result<(), Code>

@@ -10,7 +10,7 @@ ghost use Rattle.mw_core_laws.specs.Limits.{ShapesFit};
 ghost use Rattle.mw_grid.specs.Grids.{IsTileSide};
 ghost use Rattle.mw_core_tasks.specs.Planning.{IsLookedUp, IsPlannedBy};
 
-use mw_core_laws::gran::plan_of_any;
+use mw_core_laws::gran::plan_of_legal;
 use mw_core_laws::plan::Input;
 use mw_core_laws::{PlanProgress, ResolvedRun, Store};
 use mw_grid::Grid;
@@ -43,9 +43,7 @@ pub fn planned(
     let Shape::Image(kind, width, height, maxval) = shape else {
         unreachable!()
     };
-    let Ok(plan) = plan_of_any(alloc, &op, run.a, run.b, run.c) else {
-        return Err(NoMemory);
-    };
+    let plan = plan_of_legal(alloc, &op, run.a, run.b, run.c)?;
     let grid = Grid::new(width, height, side);
     PlanProgress::new(alloc, plan, grid, kind, maxval)
 }

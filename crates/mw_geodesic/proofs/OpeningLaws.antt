@@ -57,7 +57,7 @@ rises around b n f g shape below =
     let g_shape = eroded_shape b n g in
     rebuilt_rises around f g (eroded b n f) (eroded b n g) (shape_sym f_shape) (shape_trans f_shape (shape_trans shape (shape_sym g_shape))) below (eroded_rises b n f g shape below)
 
--- Where the plain opening is below it, an opening by reconstruction has the same erosions as its image.
+-- Where the opening by the element is below it, an opening by reconstruction has the same erosions as its image.
 same_erosions : (around b : List Offset) (n : ℕ) (f : Picture) → IsPicture f → Below (opened b n f) (opening_by_reconstruction around b n f)
     → eroded b n (opening_by_reconstruction around b n f) ≡ eroded b n f
 same_erosions around b n f picture low =

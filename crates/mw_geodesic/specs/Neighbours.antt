@@ -2,6 +2,8 @@
 use Rattle.std.specs.Prelude.{◌≡◌, ℕ, ◌<◌, ◌⊎◌, List, [], ◌∷◌, pos, negsuc, ◌+ℤ◌}
 use Rattle.mw_model.specs.declared.offsets.Offset.{Offset}
 use Rattle.mw_model.specs.Pictures.{Picture}
+use Rattle.mw_geodesic.specs.declared.neighbours.Neighbours.{Neighbours}
+use Rattle.mw_geodesic.specs.declared.neighbours.Neighbours.TheVariants.{Four, Eight}
 
 -- the place belongs to the frame
 pub record IsPlace (f : Picture) (x y : ℕ) : Type 0 where
@@ -39,3 +41,8 @@ eight_neighbours =
     ∷ record { dx = pos 0; dy = pos 1 }
     ∷ record { dx = pos 1; dy = pos 1 }
     ∷ []
+
+-- the element of these neighbours
+abbrev pub neighbours_of : Neighbours → List Offset
+neighbours_of Four = four_neighbours
+neighbours_of Eight = eight_neighbours

@@ -1,6 +1,6 @@
 //! Geodesic operators (Soille; Vincent; Serra): reconstruction and what follows from it, the components of a set with
 //! their labels and areas, and distances. `specs` has the definitions, `laws` and `examples` what holds of them. The
-//! programs are plain ones, whose contracts are the definitions, so that fast bodies can be compared with them. There is
+//! programs are slow ones, whose contracts are the definitions, so that fast bodies can be compared with them. There is
 //! none yet for regions, area openings and closings of grey images, and distances. No command has these operators, so
 //! nobody calls this crate but tests and the kernels that are to come. It knows of images and elements alone, and of no
 //! tile, window or machine.
@@ -27,6 +27,7 @@ mod symmetry;
 pub use extrema::{h_maxima, h_minima, regional_maxima, regional_minima};
 pub use flood::reconstruction;
 pub use labels::{Labels, areas, labelled};
+pub use neighbours::Neighbours;
 pub use openings::area_opening_of_set;
 pub use reconstructions::{
     border_cleared, closing_by_reconstruction, holes_filled, opening_by_reconstruction,

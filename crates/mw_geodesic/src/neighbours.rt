@@ -6,6 +6,13 @@ ghost use Rattle.mw_geodesic.specs.Neighbours.{Joins};
 
 use mw_model::Offset;
 
+/// The neighbours of a place: those above, to the left, to the right and below, or these and the four at the corners.
+#[derive(Clone, Copy, PartialEq, Eq, Debug)]
+pub enum Neighbours {
+    Four,
+    Eight,
+}
+
 /// A place, by its column and its row.
 #[derive(Clone, Copy, Debug)]
 pub struct Place {

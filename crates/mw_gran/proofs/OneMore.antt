@@ -82,11 +82,11 @@ still_shows Fits p q step sources r s operator pushed shows =
 -- the new source shows what the step does
 pub now_shows : (Fits : Picture → Type 0) (p q : Plan) (step : PlanStep) (sources : List Source) (s : Source) (shown : Picture → List Picture) (operator : Picture → Picture)
     → IsPushed p q step sources s → AreShown Fits p sources shown → Acts Fits step shown operator → is_sum step ≡ false → ShowsOperator Fits q s operator
-now_shows Fits p q step sources s shown operator pushed are acts plain =
+now_shows Fits p q step sources s shown operator pushed are acts unsummed =
     subst (λ (t : Source). ShowsOperator Fits q t operator) (sym pushed.at)
     (subst (λ (t : Plan). ShowsOperator Fits t (FromStep (length p)) operator) (sym pushed.is) (record {
       here = omega (arith, length-pushed p (planned step sources));
-      plane = ap (λ (t : Planned). is_sum t.step) (slice_index_or-at_end p (planned step sources) (length p) refl) ∙ plain;
+      plane = ap (λ (t : Planned). is_sum t.step) (slice_index_or-at_end p (planned step sources) (length p) refl) ∙ unsummed;
       is = λ f fits.
           source_pushed p (planned step sources) (f ∷ []) f.width f.height
           ∙ ap (λ (t : List Picture). plane_of step t f.width f.height) (are_seen p sources shown are f fits)

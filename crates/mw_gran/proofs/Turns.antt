@@ -62,7 +62,7 @@ erodes_one b n p q s erode dilate slides at pushed =
     let acts = acts_on IsPicture erode (erosion b) left slides.erodes (erosion_framed b) before.framed in
     let shown = AreShown-alone p e left before in
     let here : s ≡ FromStep n = pushed.at ∙ ap FromStep at.count in
-    let now = subst (λ (t : Source). ShowsOperator IsPicture q t next) here (now_shows IsPicture p q erode (e ∷ []) s (λ f. left f ∷ []) next pushed shown acts slides.erodes.plain) in
+    let now = subst (λ (t : Source). ShowsOperator IsPicture q t next) here (now_shows IsPicture p q erode (e ∷ []) s (λ f. left f ∷ []) next pushed shown acts slides.erodes.unsummed) in
     record {
       count = omega (arith, at.count, pushed_count p q erode (e ∷ []) s pushed);
       sound = still_sound IsPicture p q erode (e ∷ []) s (λ f. left f ∷ []) next pushed shown acts at.sound;
@@ -71,7 +71,7 @@ erodes_one b n p q s erode dilate slides at pushed =
         | inl last ↦ subst (λ (t : ℕ). ShowsOperator IsPicture q (after_erosions t) (times t (erosion b))) (sym last) now
         | inr other ↦ still_shows IsPicture p q erode (e ∷ []) s (after_erosions k) (times k (erosion b)) pushed (at.shows k (omega arith))
       ];
-      counts = still_counts IsPicture p q erode (e ∷ []) s (λ f. []) pushed slides.erodes.plain at.counts;
+      counts = still_counts IsPicture p q erode (e ∷ []) s (λ f. []) pushed slides.erodes.unsummed at.counts;
     }
   where
     read_first : (after_erosions n ≡ FromInput 0) ⊎ IsReadBy p 0 → IsReadBy q 0
@@ -133,7 +133,7 @@ skeleton_turn_more b depth n p p1 p2 p3 m o before after erode dilate slides bel
     let shows_next : ShowsOperator IsSet p s next = at.shows_eroded (suc n) (omega arith) in
     let acts1 = acts_on IsSet dilate (dilation (reflected b)) next slides.dilates (dilation_framed (reflected b)) shows_next.framed in
     let shown1 = AreShown-alone p s next shows_next in
-    let shows1 = now_shows IsSet p p1 dilate (s ∷ []) o (λ f. next f ∷ []) opened push1 shown1 acts1 slides.dilates.plain in
+    let shows1 = now_shows IsSet p p1 dilate (s ∷ []) o (λ f. next f ∷ []) opened push1 shown1 acts1 slides.dilates.unsummed in
     let sound1 = still_sound IsSet p p1 dilate (s ∷ []) o (λ f. next f ∷ []) opened push1 shown1 acts1 at.sound in
     let left1 = still_shows IsSet p p1 dilate (s ∷ []) o e left push1 (at.shows_eroded n (omega arith)) in
     let acts3 = acts_mark b depth n below in
@@ -246,7 +246,7 @@ restoration_turn_more b depth n m p p1 p2 s s1 s2 erode dilate slides below at p
     let joined : Picture → Picture = λ f. union (level f) (grown f) in
     let acts1 = acts_on IsPicture dilate (dilation (reflected b)) before slides.dilates (dilation_framed (reflected b)) at.shows.framed in
     let shown1 = AreShown-alone p s before at.shows in
-    let shows1 = now_shows IsPicture p p1 dilate (s ∷ []) s1 (λ f. before f ∷ []) grown push1 shown1 acts1 slides.dilates.plain in
+    let shows1 = now_shows IsPicture p p1 dilate (s ∷ []) s1 (λ f. before f ∷ []) grown push1 shown1 acts1 slides.dilates.unsummed in
     let level1 = still_shows IsPicture p p1 dilate (s ∷ []) s1 mark level push1 (at.levels n (omega arith)) in
     let acts2 = acts_join IsPicture level grown level1.framed shows1.framed (λ f. sym (restored_shape b (n + 1) m f).kind) (λ f. sym (restored_shape b (n + 1) m f).maxval) in
     let shown2 : AreShown IsPicture p1 (mark ∷ s1 ∷ []) (λ f. level f ∷ grown f ∷ []) = also mark (s1 ∷ []) level (λ f. grown f ∷ []) level1 (AreShown-alone p1 s1 grown shows1) in
@@ -354,7 +354,7 @@ pub dilated_more : (b : List Offset) (k steps : ℕ) (numbers : Picture → List
 dilated_more b k steps numbers before p q r s erode dilate slides tells shows pushed =
     let grown : Picture → Picture = λ f. times k (dilation (reflected b)) (before f) in
     let both = tells_no_more p q dilate r s grown (λ f. dilation (reflected b) (grown f)) (steps + k) numbers pushed shows
-    (acts_on IsPicture dilate (dilation (reflected b)) grown slides.dilates (dilation_framed (reflected b)) shows.framed) slides.dilates.plain tells in
+    (acts_on IsPicture dilate (dilation (reflected b)) grown slides.dilates (dilation_framed (reflected b)) shows.framed) slides.dilates.unsummed tells in
     let more : suc k ≡ k + 1 = omega arith in
     let steps_more : suc (steps + k) ≡ steps + (k + 1) = omega arith in
     (subst (λ (n : ℕ). Tells q n numbers) steps_more both.0, subst (λ (n : ℕ). ShowsOperator IsPicture q s (λ f. times n (dilation (reflected b)) (before f))) more both.1)

@@ -21,9 +21,9 @@ mod texts;
 
 pub use curves::Curve;
 pub use mw_plan::{GranOp, Input, NoMemory, OffsetBox, Plan, PlanFault};
-pub use plans::{plan_of, plan_of_any};
+pub use plans::{plan_of, plan_of_any, plan_of_legal};
 
 // What lower crates offer, for the crates above.
 pub mod plan {
-    pub use mw_plan::{Input, Plan, PlanFault, Source, Sources, plan_of};
+    pub use mw_plan::{Input, Plan, PlanFault, Source, Sources, plan_of, shape_of};
 }

@@ -1,6 +1,6 @@
 //! Plans of iterated operators.
 
-ghost use Rattle.std.specs.Prelude.{◌≡◌, ◌+◌, ◌*◌, ◌≤◌, true, length, IfOk};
+ghost use Rattle.std.specs.Prelude.{◌≡◌, ◌+◌, ◌*◌, ◌≤◌, true, length, IfOk, None};
 ghost use Rattle.std.specs.Arc.{arc_value};
 ghost use Rattle.mw_plan.specs.mw_element.Figures.{FillsBox};
 ghost use Rattle.mw_model.specs.declared.limits.TheConstants.{STEP_LIMIT, TURN_LIMIT};
@@ -53,6 +53,24 @@ fn steps(alloc: Global, op: &GranOp, element: &Arc<Element>) -> Result<Plan, NoM
     }
 }
 
+/// The plan of an operation with which `mw_plan::shape_of` finds no fault on these inputs, or `NoMemory`.
+fn plan_of_legal_gran(
+    alloc: Global,
+    op: &GranOp,
+    a: Input<'_>,
+    b: Input<'_>,
+    c: Input<'_>,
+) -> Result<Plan, NoMemory>
+    requires legal { fault_in (Op.Gran op.now) a b c ≡ None }
+    ensures plan { IfOk result (IsPlanOf (Op.Gran op.now) a.entry b.entry c.entry) }
+    ensures steps { IfOk result (λ p. length p ≤ most_steps op.now) }
+    ensures boxed { IfOk result (λ p. (box : OffsetBox) → FillsBox box (offsets_of_input b.entry) → HoldsOrigin (offsets_of_input b.entry) → length p ≤ most_steps_by_box op.now) }
+    ensures short { IfOk result (λ p. length p ≤ STEP_LIMIT) }
+{
+    let plan = steps(alloc, op, b.element())?;
+    Ok(plan)
+}
+
 /// A plan of the operation on these inputs, or its first fault as `mw_plan::shape_of` tells it, or `NoMemory` where memory
 /// was refused.
 pub fn plan_of(
@@ -69,7 +87,24 @@ pub fn plan_of(
     ensures short { IfOk result (λ p. length p ≤ STEP_LIMIT) }
 {
     shape_of(&Op::Gran(*op), a, b, c)?;
-    Ok(steps(alloc, op, b.element())?)
+    Ok(plan_of_legal_gran(alloc, op, a, b, c)?)
+}
+
+/// The plan of an operation of either kind with which `mw_plan::shape_of` finds no fault on these inputs, or `NoMemory`.
+pub fn plan_of_legal(
+    alloc: Global,
+    op: &Op,
+    a: Input<'_>,
+    b: Input<'_>,
+    c: Input<'_>,
+) -> Result<Plan, NoMemory>
+    requires legal { fault_in op.now a b c ≡ None }
+    ensures plan { IfOk result (IsPlanOf op.now a.entry b.entry c.entry) }
+{
+    match op {
+        Op::Flat(flat) => mw_plan::plan_of_legal(alloc, flat, a, b, c),
+        Op::Gran(gran) => plan_of_legal_gran(alloc, gran, a, b, c),
+    }
 }
 
 /// A plan of an operation of either kind on these inputs, or its first fault as `mw_plan::shape_of` tells it, or `NoMemory`

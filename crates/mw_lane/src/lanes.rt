@@ -4,7 +4,7 @@ ghost use lib.Lanes.{zip2};
 
 use mw_pixel::{Bit, Pixel};
 
-/// Samples that can be subtracted and cut at a level. The block methods are plain loops unless a type has
+/// Samples that can be subtracted and cut at a level. The block methods are loops over single samples unless a type has
 /// vector code for them.
 pub trait Lanes: Pixel {
     ghost difference: { Self → Self → Self };

@@ -2,7 +2,7 @@
 //! on.
 //!
 //! Each does its work 64 samples at a time, by vector code for bytes and 16-bit samples, and one at a time for the rest
-//! of a row. Its contract is the plain loop, so a caller never sees which samples went through vectors.
+//! of a row. Its contract is that of one at a time, so a caller never sees which samples went through vectors.
 //!
 //! ```text
 //! combine_rows::<u8, Min>(&mut nearest, &other);  // nearest[i] = min(nearest[i], other[i])

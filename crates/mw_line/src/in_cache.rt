@@ -3,9 +3,8 @@
 //! next begins is merged for nothing, which costs less than a call for each row.
 ghost use Rattle.std.specs.Prelude.{◌≡◌, ℕ, ◌+◌, ◌-◌, ◌*◌, ◌<◌, ◌≤◌, ◌^◌, pos, ◌+ℤ◌, ◌≤ℤ◌, length, slice_index_or, vec_len, IfOk, IsTrue};
 ghost use Rattle.mw_model.specs.declared.limits.TheConstants.{FAR_LIMIT};
-ghost use Rattle.mw_model.specs.Rasters.{raster, cell_at};
-ghost use Rattle.mw_lane.specs.Shifted.{merge_at};
-ghost use Rattle.mw_line.specs.Extrema.{over};
+ghost use Rattle.mw_line.specs.Extrema.{over_box};
+ghost use Rattle.mw_line.specs.Slides.{HoldsBoxExtrema};
 
 use crate::doubling::slide_by;
 use crate::pairs::merge_rows;
@@ -64,7 +63,7 @@ fn merge_boxes<P: Pixel, E: Extremum<P>>(cells: &mut [P], slide: Slide, out: &mu
     requires low { slide.height + (slide.down - 1) ≤ 2 ^ 20 }
     requires cells { (slide.height + (slide.down - 1)) * (slide.width + (slide.across - 1)) ≤ length cells.old }
     requires size { length out.old ≡ slide.height * slide.width }
-    ensures { (x y : ℕ) (d : P) → x < slide.width → y < slide.height → slice_index_or out.new (y * slide.width + x) d ≡ E.merge (slice_index_or out.old (y * slide.width + x) d) (over E.merge (λ j. over E.merge (λ i. slice_index_or cells.old ((y + j) * (slide.width + (slide.across - 1)) + (x + i)) d) 0 (slide.across - 1)) 0 (slide.down - 1)) }
+    ensures { (x y : ℕ) (d : P) → x < slide.width → y < slide.height → slice_index_or out.new (y * slide.width + x) d ≡ E.merge (slice_index_or out.old (y * slide.width + x) d) (over_box E.merge (λ i j. slice_index_or cells.old (j * (slide.width + (slide.across - 1)) + i) d) slide.across slide.down x y) }
 {
     let wide = slide.width + (slide.across - 1);
     let high = slide.height + (slide.down - 1);
@@ -94,7 +93,7 @@ pub(crate) fn boxes_in_cache<P: Grey, E: Extremum<P>>(
     requires few { (slide.height + (slide.down - 1)) * (slide.width + (slide.across - 1)) ≤ 2 ^ 20 }
     requires near { slide.row ≤ℤ pos FAR_LIMIT }
     ensures size { IfOk result (λ v. vec_len v ≡ slide.height * slide.width) }
-    ensures cells { IfOk result (λ v. (x y : ℕ) → x < slide.width → y < slide.height → slice_index_or v.items (y * slide.width + x) neutral ≡ over E.merge (λ j. over E.merge (λ i. merge_at E.merge neutral (cell_at (raster window.now.place.width window.now.place.height window.now.cells) (slide.column +ℤ pos (x + i)) (slide.row +ℤ pos (y + j)))) 0 (slide.across - 1)) 0 (slide.down - 1)) }
+    ensures cells { IfOk result (λ v. HoldsBoxExtrema E.merge neutral window.now slide v.items) }
 {
     let rows = SpreadRows {
         column: slide.column,

@@ -4,11 +4,13 @@
 ghost use Rattle.std.specs.Prelude.{◌≡◌, ℕ, ◌+◌, ◌-◌, ◌*◌, ◌<◌, ◌≤◌, ◌^◌, pos, negsuc, ◌+ℤ◌, ◌≤ℤ◌, length, slice_index_or, replicate, vec_len, All, IfOk};
 ghost use Rattle.mw_model.specs.declared.limits.TheConstants.{FAR_LIMIT};
 ghost use Rattle.mw_model.specs.Rectangles.{box_offsets};
-ghost use Rattle.mw_model.specs.Rasters.{Raster, raster, cell_at};
+ghost use Rattle.mw_model.specs.Rasters.{Raster, cell_at};
 ghost use Rattle.mw_model.specs.Windows.{seen_at};
 ghost use Rattle.mw_tile.specs.Windows.{IsWindow};
 ghost use Rattle.mw_lane.specs.Shifted.{merge_at};
+ghost use Rattle.mw_line.specs.Cells.{window_cell, merged_cell};
 ghost use Rattle.mw_line.specs.Extrema.{over, IsSlidingExtremum};
+ghost use Rattle.mw_line.specs.Slides.{HoldsBoxExtrema};
 
 use crate::columns::grow;
 use crate::doubling::slide_by;
@@ -32,7 +34,7 @@ fn slide_row<P: Grey, E: Extremum<P>>(
     requires some { (0 < slide.across) × (0 < slide.width) }
     requires within { slide.width + (slide.across - 1) ≤ length blank.now }
     requires paired { length line.old ≡ length blank.now }
-    ensures { (x : ℕ) (d : P) → x < slide.width → slice_index_or line.new x d ≡ over E.merge (λ i. merge_at E.merge (slice_index_or blank.now (x + i) d) (cell_at (raster window.now.place.width window.now.place.height window.now.cells) (slide.column +ℤ pos (x + i)) row)) 0 (slide.across - 1) }
+    ensures { (x : ℕ) (d : P) → x < slide.width → slice_index_or line.new x d ≡ over E.merge (λ i. merge_at E.merge (slice_index_or blank.now (x + i) d) (window_cell window.now (slide.column +ℤ pos (x + i)) row)) 0 (slide.across - 1) }
 {
     let wide = slide.width + (slide.across - 1);
     line.copy_from_slice(blank);
@@ -55,7 +57,7 @@ fn slide_rows<P: Grey, E: Extremum<P>>(
     requires few { slide.height + (slide.down - 1) ≤ FAR_LIMIT }
     requires near { slide.row ≤ℤ pos FAR_LIMIT }
     ensures size { IfOk result (λ v. vec_len v ≡ (slide.height + (slide.down - 1)) * slide.width) }
-    ensures cells { IfOk result (λ v. (n : P) → blank.now ≡ replicate (length blank.now) n → (x y : ℕ) → x < slide.width → y < slide.height → slice_index_or v.items (y * slide.width + x) n ≡ over E.merge (λ j. over E.merge (λ i. merge_at E.merge n (cell_at (raster window.now.place.width window.now.place.height window.now.cells) (slide.column +ℤ pos (x + i)) (slide.row +ℤ pos j))) 0 (slide.across - 1)) y (slide.down - 1)) }
+    ensures cells { IfOk result (λ v. (n : P) → blank.now ≡ replicate (length blank.now) n → (x y : ℕ) → x < slide.width → y < slide.height → slice_index_or v.items (y * slide.width + x) n ≡ over E.merge (λ j. over E.merge (λ i. merged_cell E.merge n window.now slide.column slide.row (x + i) j) 0 (slide.across - 1)) y (slide.down - 1)) }
 {
     let width = slide.width;
     let high = slide.height + (slide.down - 1);
@@ -80,7 +82,7 @@ fn boxes_by_rows<P: Grey, E: Extremum<P>>(
     requires low { (slide.height < 2 ^ 32) × (slide.down ≤ 2 ^ 34) }
     requires near { slide.row ≤ℤ pos FAR_LIMIT }
     ensures size { IfOk result (λ v. vec_len v ≡ slide.height * slide.width) }
-    ensures cells { IfOk result (λ v. (x y : ℕ) → x < slide.width → y < slide.height → slice_index_or v.items (y * slide.width + x) neutral ≡ over E.merge (λ j. over E.merge (λ i. merge_at E.merge neutral (cell_at (raster window.now.place.width window.now.place.height window.now.cells) (slide.column +ℤ pos (x + i)) (slide.row +ℤ pos (y + j)))) 0 (slide.across - 1)) 0 (slide.down - 1)) }
+    ensures cells { IfOk result (λ v. HoldsBoxExtrema E.merge neutral window.now slide v.items) }
 {
     let padded = slide.width + (slide.across - 1) + 63;
     let blank = copies(alloc, padded, neutral)?;
@@ -102,7 +104,7 @@ fn boxes<P: Grey, E: Extremum<P>>(
     requires low { (slide.height < 2 ^ 32) × (slide.down ≤ 2 ^ 34) }
     requires near { slide.row ≤ℤ pos FAR_LIMIT }
     ensures size { IfOk result (λ v. vec_len v ≡ slide.height * slide.width) }
-    ensures cells { IfOk result (λ v. (x y : ℕ) → x < slide.width → y < slide.height → slice_index_or v.items (y * slide.width + x) neutral ≡ over E.merge (λ j. over E.merge (λ i. merge_at E.merge neutral (cell_at (raster window.now.place.width window.now.place.height window.now.cells) (slide.column +ℤ pos (x + i)) (slide.row +ℤ pos (y + j)))) 0 (slide.across - 1)) 0 (slide.down - 1)) }
+    ensures cells { IfOk result (λ v. HoldsBoxExtrema E.merge neutral window.now slide v.items) }
 {
     if is_cheaper_as_list::<P>(slide) {
         return boxes_in_cache::<P, E>(alloc, window, slide, neutral);

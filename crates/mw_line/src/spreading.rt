@@ -2,8 +2,8 @@
 ghost use Rattle.std.specs.Prelude.{◌≡◌, ℕ, ◌+◌, ◌-◌, ◌*◌, ◌<◌, ◌≤◌, ◌^◌, pos, ◌+ℤ◌, ◌≤ℤ◌, nat_lt, if◌then◌else◌, length, slice_get, slice_index_or, vec_len, IfOk, IfSome, IsSome};
 ghost use Rattle.std.specs.Option.{unwrap_or};
 ghost use Rattle.mw_model.specs.declared.limits.TheConstants.{FAR_LIMIT};
-ghost use Rattle.mw_model.specs.Rasters.{raster, cell_at};
 ghost use Rattle.mw_lane.specs.Shifted.{at_place};
+ghost use Rattle.mw_line.specs.Cells.{window_cell, spread_cell};
 
 use mw_model::NoMemory;
 use mw_tile::Window;
@@ -43,7 +43,7 @@ fn copy_row<P: Pixel>(row: &[P], column: i64, out: &mut [P])
 
 /// Copies what the window has in a row, from that column on.
 fn copy_window_row<P: Grey>(window: &Window<P>, column: i64, row: i64, out: &mut [P])
-    ensures { (x : ℕ) (d : P) → x < length out.old → slice_index_or out.new x d ≡ unwrap_or (cell_at (raster window.now.place.width window.now.place.height window.now.cells) (column +ℤ pos x) row) (slice_index_or out.old x d) }
+    ensures { (x : ℕ) (d : P) → x < length out.old → slice_index_or out.new x d ≡ unwrap_or (window_cell window.now (column +ℤ pos x) row) (slice_index_or out.old x d) }
 {
     let place = window.place();
     if row >= 0 && row < i64::from(place.height) {
@@ -56,7 +56,7 @@ fn copy_all<P: Grey>(window: &Window<P>, rows: SpreadRows, out: &mut [P])
     requires few { rows.high ≤ 2 ^ 20 }
     requires near { rows.row ≤ℤ pos FAR_LIMIT }
     requires size { length out.old ≡ rows.high * rows.wide }
-    ensures { (x y : ℕ) (d : P) → x < rows.wide → y < rows.high → slice_index_or out.new (y * rows.wide + x) d ≡ unwrap_or (cell_at (raster window.now.place.width window.now.place.height window.now.cells) (rows.column +ℤ pos x) (rows.row +ℤ pos y)) (slice_index_or out.old (y * rows.wide + x) d) }
+    ensures { (x y : ℕ) (d : P) → x < rows.wide → y < rows.high → slice_index_or out.new (y * rows.wide + x) d ≡ spread_cell (slice_index_or out.old (y * rows.wide + x) d) window.now rows.column rows.row x y }
 {
     let wide = rows.wide;
     for y in 0..rows.high {
@@ -71,7 +71,7 @@ fn copy_rows<P: Grey>(window: &Window<P>, rows: SpreadRows, out: &mut [P])
     requires few { rows.high ≤ 2 ^ 20 }
     requires near { rows.row ≤ℤ pos FAR_LIMIT }
     requires room { rows.high * rows.wide ≤ length out.old }
-    ensures { (x y : ℕ) (d : P) → x < rows.wide → y < rows.high → slice_index_or out.new (y * rows.wide + x) d ≡ unwrap_or (cell_at (raster window.now.place.width window.now.place.height window.now.cells) (rows.column +ℤ pos x) (rows.row +ℤ pos y)) (slice_index_or out.old (y * rows.wide + x) d) }
+    ensures { (x y : ℕ) (d : P) → x < rows.wide → y < rows.high → slice_index_or out.new (y * rows.wide + x) d ≡ spread_cell (slice_index_or out.old (y * rows.wide + x) d) window.now rows.column rows.row x y }
 {
     copy_all(window, rows, &mut out[..rows.high * rows.wide]);
 }
@@ -104,7 +104,7 @@ fn held_rows<P: Grey>(
     requires inside { row + high ≤ window.now.place.height }
     requires small { high * window.now.place.width + 63 < 2 ^ 64 }
     ensures size { IfOk result (λ v. vec_len v ≡ high * window.now.place.width + 63) }
-    ensures cells { IfOk result (λ v. (x y : ℕ) → x < window.now.place.width → y < high → slice_index_or v.items (y * window.now.place.width + x) neutral ≡ unwrap_or (cell_at (raster window.now.place.width window.now.place.height window.now.cells) (pos x) (pos (row + y))) neutral) }
+    ensures cells { IfOk result (λ v. (x y : ℕ) → x < window.now.place.width → y < high → slice_index_or v.items (y * window.now.place.width + x) neutral ≡ unwrap_or (window_cell window.now (pos x) (pos (row + y))) neutral) }
 {
     let wide = window.place().width as usize;
     let count = high * wide;
@@ -126,7 +126,7 @@ pub fn spread<P: Grey>(
     requires narrow { rows.wide ≤ 2 ^ 33 }
     requires near { rows.row ≤ℤ pos FAR_LIMIT }
     ensures size { IfOk result (λ v. vec_len v ≡ rows.high * rows.wide + 63) }
-    ensures cells { IfOk result (λ v. (x y : ℕ) → x < rows.wide → y < rows.high → slice_index_or v.items (y * rows.wide + x) neutral ≡ unwrap_or (cell_at (raster window.now.place.width window.now.place.height window.now.cells) (rows.column +ℤ pos x) (rows.row +ℤ pos y)) neutral) }
+    ensures cells { IfOk result (λ v. (x y : ℕ) → x < rows.wide → y < rows.high → slice_index_or v.items (y * rows.wide + x) neutral ≡ spread_cell neutral window.now rows.column rows.row x y) }
 {
     if let Some(row) = held_row(window, rows) {
         return held_rows(alloc, window, row, rows.high, neutral);

@@ -1,7 +1,7 @@
 //! A row of a window merged into a row of samples.
 ghost use Rattle.std.specs.Prelude.{◌≡◌, ℕ, ◌<◌, ◌+ℤ◌, pos, length, slice_index_or};
-ghost use Rattle.mw_model.specs.Rasters.{raster, cell_at};
 ghost use Rattle.mw_lane.specs.Shifted.{merge_at};
+ghost use Rattle.mw_line.specs.Cells.{window_cell};
 
 use mw_lane::combine_shifted;
 use mw_tile::Window;
@@ -15,7 +15,7 @@ pub fn combine_window_row<P: Grey, E: Extremum<P>>(
     row: i64,
     out: &mut [P],
 )
-    ensures { (x : ℕ) (d : P) → x < length out.old → slice_index_or out.new x d ≡ merge_at E.merge (slice_index_or out.old x d) (cell_at (raster window.now.place.width window.now.place.height window.now.cells) (column +ℤ pos x) row) }
+    ensures { (x : ℕ) (d : P) → x < length out.old → slice_index_or out.new x d ≡ merge_at E.merge (slice_index_or out.old x d) (window_cell window.now (column +ℤ pos x) row) }
 {
     let place = window.place();
     if row >= 0 && row < i64::from(place.height) {

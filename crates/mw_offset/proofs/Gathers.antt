@@ -9,7 +9,7 @@ use Rattle.mw_line.proofs.Joined.{strided-joined}
 use Rattle.mw_element_runs.specs.declared.runs.Run.{Run}
 use Rattle.mw_element_runs.specs.declared.runs.Extent.{Extent}
 use Rattle.mw_element_runs.specs.Runs.{start_of, RunHasRoom, sized, two_parts, gather}
-use Rattle.mw_offset.specs.MergedAt.{sized_below}
+use Rattle.mw_offset.specs.MergedAt.{run_extremum, sized_below}
 
 -- what the runs of less than b offsets give
 abbrev pub gather_below : {A : Type 0} → (A → A → A) → A → (Run → A) → ℕ → List Run → A
@@ -148,27 +148,23 @@ doubled_more f laws cells doubled made s left known room left-is size made-is =
     let twice : s + s ≡ s * 2 = omega arith in
     rw twice at (grown_more f laws cells doubled made s s left known (omega arith) (omega arith) (omega arith) size made-is)
 
--- what a run gives at a place, where the cells are laid out for an element
-abbrev pub run_value : {A : Type 0} → (A → A → A) → List A → A → Extent → ℕ → ℕ → Run → A
-run_value f cells n e wide q r = strided f cells n 1 (r.count - 1) (start_of e wide r + q)
-
 pub none_gathered : {A : Type 0} (f : A → A → A) (n : A) (value : Run → A) (e : Extent) (wide count cells : ℕ) (runs : List Run) → AllByRecursion (RunHasRoom e wide count cells) runs → n ≡ gather_below f n value 1 runs
 none_gathered f n value e wide count cells runs rooms =
     sym (none_below_one f n value runs (all-weaker (RunHasRoom e wide count cells) (λ (r : Run). 0 < r.count) runs (λ r room. room.inside.run.some) rooms))
 
 -- the runs of s offsets and more, and less than t, are merged by two parts each
 pub gathered_between : {A : Type 0} (f : A → A → A) → IsExtremum f → (cells doubled : List A) (s t : ℕ) → IsDoubled f cells doubled s → s ≤ t → t ≤ 2 * s → (n : A) (e : Extent) (wide count q : ℕ) → q < count → (best made : A) (runs : List Run)
-    → AllByRecursion (RunHasRoom e wide count (length cells)) runs → made ≡ fold (sized_below s t (two_parts f doubled n e wide s q)) best runs → best ≡ gather_below f n (run_value f cells n e wide q) s runs
-    → made ≡ gather_below f n (run_value f cells n e wide q) t runs
+    → AllByRecursion (RunHasRoom e wide count (length cells)) runs → made ≡ fold (sized_below s t (two_parts f doubled n e wide s q)) best runs → best ≡ gather_below f n (run_extremum f cells n e wide q) s runs
+    → made ≡ gather_below f n (run_extremum f cells n e wide q) t runs
 gathered_between f laws cells doubled s t known more twice n e wide count q lt best made runs rooms made-is best-is =
     made-is
     ∙ fold_parts f laws cells doubled s t known twice n e wide count q lt best runs rooms
-    ∙ ap (λ (z : _). fold (sized_below s t (one_run f (run_value f cells n e wide q))) z runs) best-is
-    ∙ gather_more f laws n (run_value f cells n e wide q) s t more runs
+    ∙ ap (λ (z : _). fold (sized_below s t (one_run f (run_extremum f cells n e wide q))) z runs) best-is
+    ∙ gather_more f laws n (run_extremum f cells n e wide q) s t more runs
 
 -- those of s to 2 * s - 1 offsets
 pub gathered_more : {A : Type 0} (f : A → A → A) → IsExtremum f → (cells doubled : List A) (s : ℕ) → IsDoubled f cells doubled s → (n : A) (e : Extent) (wide count q : ℕ) → q < count → (best made : A) (runs : List Run)
-    → AllByRecursion (RunHasRoom e wide count (length cells)) runs → made ≡ fold (sized s (two_parts f doubled n e wide s q)) best runs → best ≡ gather_below f n (run_value f cells n e wide q) s runs
-    → made ≡ gather_below f n (run_value f cells n e wide q) (2 * s) runs
+    → AllByRecursion (RunHasRoom e wide count (length cells)) runs → made ≡ fold (sized s (two_parts f doubled n e wide s q)) best runs → best ≡ gather_below f n (run_extremum f cells n e wide q) s runs
+    → made ≡ gather_below f n (run_extremum f cells n e wide q) (2 * s) runs
 gathered_more f laws cells doubled s known n e wide count q lt best made runs rooms made-is best-is =
     gathered_between f laws cells doubled s (2 * s) known (omega arith) (omega arith) n e wide count q lt best made runs rooms made-is best-is

@@ -3,11 +3,16 @@ use Rattle.std.specs.Prelude.{◌⊎◌, ℕ, ◌+◌, ◌-◌, ◌*◌, ◌≤�
 use Rattle.mw_element_runs.specs.declared.runs.Run.{Run}
 use Rattle.mw_element_runs.specs.declared.runs.Extent.{Extent}
 use Rattle.mw_model.specs.Rectangles.{nonnegative}
+use Rattle.mw_line.specs.Extrema.{strided}
 use Rattle.mw_element_runs.specs.Runs.{start_of}
 
 -- a sample merged with the one that stands q places after p
 abbrev pub merge_from : {A : Type 0} → (A → A → A) → List A → A → ℕ → A → ℕ → A
 merge_from merge cells d q best p = merge best (slice_index_or cells (p + q) d)
+
+-- the extremum of the samples of a run, looked up from place q of rows of `wide` cells that are laid out for an extent
+abbrev pub run_extremum : {A : Type 0} → (A → A → A) → List A → A → Extent → ℕ → ℕ → Run → A
+run_extremum merge cells d e wide q r = strided merge cells d 1 (r.count - 1) (start_of e wide r + q)
 
 -- where the parts of `size` offsets begin that make up a run, if it has `size` offsets or more, and less than `next`
 abbrev pub places_of : Extent → ℕ → ℕ → ℕ → Run → List ℕ

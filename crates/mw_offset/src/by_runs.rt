@@ -8,11 +8,10 @@ ghost use Rattle.std.specs.Vec.{vec_capacity};
 ghost use Rattle.mw_element_runs.specs.declared.runs.Extent.{Extent};
 ghost use Rattle.std.specs.List.{AllByRecursion};
 ghost use Rattle.mw_model.specs.Rectangles.{nonnegative};
-ghost use Rattle.mw_model.specs.Rasters.{seen_under};
 ghost use Rattle.mw_model.specs.Windows.{seen_at};
-ghost use Rattle.mw_line.specs.Extrema.{strided};
 ghost use Rattle.mw_element_runs.specs.declared.runs.Run.{Run};
-ghost use Rattle.mw_offset.specs.MergedAt.{places_of, sized_below, IsMergedAtOnce};
+ghost use Rattle.mw_offset.specs.MergedAt.{run_extremum, places_of, sized_below, IsMergedAtOnce};
+ghost use Rattle.mw_offset.specs.Tiles.{HoldsExtrema};
 ghost use Rattle.mw_element_runs.specs.Runs.{run_offsets, start_of, RunIsInside, RunHasRoom, two_parts, gather};
 
 use crate::merging::combine_rows_at;
@@ -152,7 +151,7 @@ fn combine_runs<P: Pixel, E: Extremum<P>>(
     requires size { length out.old ≡ laid.height * laid.width }
     requires wanted { 0 < length out.old }
     requires cells { (laid.height - 1) * laid.wide + laid.width + 63 ≤ length cells.old }
-    ensures { OnOk result ((n : P) → ((q : ℕ) → slice_index_or out.old q n ≡ n) → (x y : ℕ) → x < laid.width → y < laid.height → slice_index_or out.new (y * laid.width + x) n ≡ gather E.merge n (λ r. strided E.merge cells.old n 1 (r.count - 1) (start_of laid.extent laid.wide r + (y * laid.wide + x))) runs.now) }
+    ensures { OnOk result ((n : P) → ((q : ℕ) → slice_index_or out.old q n ≡ n) → (x y : ℕ) → x < laid.width → y < laid.height → slice_index_or out.new (y * laid.width + x) n ≡ gather E.merge n (run_extremum E.merge cells.old n laid.extent laid.wide (y * laid.wide + x)) runs.now) }
 {
     let longest = longest_of(runs);
     let counts = counts_of(alloc, runs, longest)?;
@@ -183,7 +182,7 @@ fn merge_laid<P: Pixel, E: Extremum<P>>(
     requires wanted { 0 < length out.old }
     requires cells { (laid.height - 1) * laid.wide + laid.width + 63 ≤ length cells.old }
     requires blank { (q : ℕ) → slice_index_or out.old q neutral ≡ neutral }
-    ensures { OnOk result ((x y : ℕ) → x < laid.width → y < laid.height → slice_index_or out.new (y * laid.width + x) neutral ≡ gather E.merge neutral (λ r. strided E.merge cells.old neutral 1 (r.count - 1) (start_of laid.extent laid.wide r + (y * laid.wide + x))) runs.now) }
+    ensures { OnOk result ((x y : ℕ) → x < laid.width → y < laid.height → slice_index_or out.new (y * laid.width + x) neutral ≡ gather E.merge neutral (run_extremum E.merge cells.old neutral laid.extent laid.wide (y * laid.wide + x)) runs.now) }
 {
     let Laid {
         wide,
@@ -227,7 +226,7 @@ pub(crate) fn merge_runs<P: Grey, E: Extremum<P>>(
     requires few_rows { nonnegative (looked.extent.bottom -ℤ looked.extent.top) ≤ 1023 }
     requires size { length out.old ≡ looked.tile.height * looked.tile.width }
     requires blank { (q : ℕ) → slice_index_or out.old q neutral ≡ neutral }
-    ensures { OnOk result ((x y : ℕ) → x < looked.tile.width → y < looked.tile.height → slice_index_or out.new (y * looked.tile.width + x) neutral ≡ fold E.merge neutral (seen_under (seen_at window.now) (flat_map run_offsets runs.now) (looked.tile.x + x) (looked.tile.y + y))) }
+    ensures { OnOk result (HoldsExtrema E.merge neutral (seen_at window.now) (flat_map run_offsets runs.now) looked.tile out.new) }
 {
     let Looked { tile, extent } = looked;
     let place = window.place();

@@ -11,6 +11,7 @@ ghost use Rattle.mw_line.specs.mw_tile.Windows.{IsWindow};
 ghost use Rattle.mw_line.specs.mw_lane.Shifted.{merge_at};
 ghost use Rattle.mw_line.specs.Extrema.{IsSlidingExtremum};
 ghost use Rattle.mw_element_runs.specs.Runs.{AreEitherWay, IsRun};
+ghost use Rattle.mw_offset.specs.Tiles.{HoldsExtrema};
 
 use crate::strips::extremum_by_strips;
 use mw_element_runs::{
@@ -102,7 +103,7 @@ fn extremum_by_offsets<P: Grey, E: Extremum<P>>(
     tile: Rect,
 ) -> Result<Vec<P>, NoMemory>
     ensures size { IfOk result (λ v. vec_len v ≡ tile.height * tile.width) }
-    ensures cells { IfOk result (λ v. (x y : ℕ) → x < tile.width → y < tile.height → slice_index_or v.items (y * tile.width + x) neutral ≡ fold E.merge neutral (seen_under (seen_at window.now) offsets.now (tile.x + x) (tile.y + y))) }
+    ensures cells { IfOk result (λ v. HoldsExtrema E.merge neutral (seen_at window.now) offsets.now tile v.items) }
 {
     let mut samples = copies(alloc, tile.height as usize * tile.width as usize, neutral)?;
     combine_tile::<P, E>(window, offsets, tile, samples.as_mut_slice());
@@ -121,7 +122,7 @@ fn extremum_samples<P: Grey, E: Extremum<P>>(
     requires either { AreEitherWay offsets.now runs.now }
     requires runs { AllByRecursion IsRun runs.now }
     ensures size { IfOk result (λ v. vec_len v ≡ tile.height * tile.width) }
-    ensures cells { IfOk result (λ v. (x y : ℕ) → x < tile.width → y < tile.height → slice_index_or v.items (y * tile.width + x) neutral ≡ fold E.merge neutral (seen_under (seen_at window.now) offsets.now (tile.x + x) (tile.y + y))) }
+    ensures cells { IfOk result (λ v. HoldsExtrema E.merge neutral (seen_at window.now) offsets.now tile v.items) }
 {
     if tile.width > 0 && tile.height > 0 {
         if let Some(extent) = extent_of(runs) {

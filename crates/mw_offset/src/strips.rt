@@ -1,12 +1,12 @@
 //! The extremum by runs, one strip of the tile's rows after another, so that the rows of a strip stay in the processor's
 //! cache from their spreading to their last merge.
-ghost use Rattle.std.specs.Prelude.{◌≡◌, ℕ, ◌+◌, ◌*◌, ◌<◌, ◌≤◌, ◌^◌, ◌-ℤ◌, ◌≤ℤ◌, length, slice_index_or, fold, flat_map, vec_len, IfOk, OnOk};
+ghost use Rattle.std.specs.Prelude.{◌≡◌, ℕ, ◌+◌, ◌*◌, ◌<◌, ◌≤◌, ◌^◌, ◌-ℤ◌, ◌≤ℤ◌, length, slice_index_or, flat_map, vec_len, IfOk, OnOk};
 ghost use Rattle.std.specs.List.{AllByRecursion};
 ghost use Rattle.mw_model.specs.Rectangles.{nonnegative};
-ghost use Rattle.mw_model.specs.Rasters.{seen_under};
 ghost use Rattle.mw_model.specs.Windows.{seen_at};
 ghost use Rattle.mw_element_runs.specs.Runs.{run_offsets, RunIsInside};
 ghost use Rattle.mw_offset.specs.MergedAt.{IsMergedAtOnce};
+ghost use Rattle.mw_offset.specs.Tiles.{HoldsExtrema};
 
 use crate::by_runs::{Looked, merge_runs};
 use mw_element_runs::{Extent, Run, rows_after};
@@ -48,7 +48,7 @@ fn merge_strips<P: Grey, E: Extremum<P>>(
     requires few_rows { nonnegative (looked.extent.bottom -ℤ looked.extent.top) ≤ 1023 }
     requires size { length out.old ≡ looked.tile.height * looked.tile.width }
     requires blank { (q : ℕ) → slice_index_or out.old q neutral ≡ neutral }
-    ensures { OnOk result ((x y : ℕ) → x < looked.tile.width → y < looked.tile.height → slice_index_or out.new (y * looked.tile.width + x) neutral ≡ fold E.merge neutral (seen_under (seen_at window.now) (flat_map run_offsets runs.now) (looked.tile.x + x) (looked.tile.y + y))) }
+    ensures { OnOk result (HoldsExtrema E.merge neutral (seen_at window.now) (flat_map run_offsets runs.now) looked.tile out.new) }
 {
     let Looked { tile, extent } = looked;
     let most = rows_of_strip(tile.width, extent);
@@ -94,7 +94,7 @@ pub(crate) fn extremum_by_strips<P: Grey, E: Extremum<P>>(
     requires high { extent.top ≤ℤ extent.bottom }
     requires few_rows { nonnegative (extent.bottom -ℤ extent.top) ≤ 1023 }
     ensures size { IfOk result (λ v. vec_len v ≡ tile.height * tile.width) }
-    ensures cells { IfOk result (λ v. (x y : ℕ) → x < tile.width → y < tile.height → slice_index_or v.items (y * tile.width + x) neutral ≡ fold E.merge neutral (seen_under (seen_at window.now) (flat_map run_offsets runs.now) (tile.x + x) (tile.y + y))) }
+    ensures cells { IfOk result (λ v. HoldsExtrema E.merge neutral (seen_at window.now) (flat_map run_offsets runs.now) tile v.items) }
 {
     let looked = Looked { tile, extent };
     let mut samples = copies(alloc, tile.height as usize * tile.width as usize, neutral)?;

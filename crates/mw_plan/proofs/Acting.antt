@@ -16,13 +16,13 @@ use Rattle.mw_plan.specs.Steps.{ActsAs, by_offsets, by_box, sliding, turned_box}
 use Rattle.mw_plan.proofs.Boxes.{box_same, turned_same}
 
 pub acts_by_offsets : (x : ExtremumKind) (e : List Offset) → ActsAs (by_offsets x e) (sliding x e)
-acts_by_offsets Least e = record { plain = refl; made = λ f. record { count = refl; kinds = tt }; plane = λ f. refl }
-acts_by_offsets Greatest e = record { plain = refl; made = λ f. record { count = refl; kinds = tt }; plane = λ f. refl }
+acts_by_offsets Least e = record { unsummed = refl; made = λ f. record { count = refl; kinds = tt }; plane = λ f. refl }
+acts_by_offsets Greatest e = record { unsummed = refl; made = λ f. record { count = refl; kinds = tt }; plane = λ f. refl }
 
 -- a box acts as each element that covers the same
 acts_by_box : (x : ExtremumKind) (box : OffsetBox) (e : List Offset) → CoverSame (box_offsets box) e → ActsAs (by_box x box) (sliding x e)
-acts_by_box Least box e same = record { plain = refl; made = λ f. record { count = refl; kinds = tt }; plane = λ f. erosion_same (box_offsets box) e f same }
-acts_by_box Greatest box e same = record { plain = refl; made = λ f. record { count = refl; kinds = tt }; plane = λ f. dilation_same (box_offsets box) e f same }
+acts_by_box Least box e same = record { unsummed = refl; made = λ f. record { count = refl; kinds = tt }; plane = λ f. erosion_same (box_offsets box) e f same }
+acts_by_box Greatest box e same = record { unsummed = refl; made = λ f. record { count = refl; kinds = tt }; plane = λ f. dilation_same (box_offsets box) e f same }
 
 pub acts_by_full_box : (x : ExtremumKind) (box : OffsetBox) (e : List Offset) → FillsBox box e → ActsAs (by_box x box) (sliding x e)
 acts_by_full_box x box e fills = acts_by_box x box e (box_same box e fills)
@@ -31,10 +31,10 @@ pub acts_by_turned_box : (x : ExtremumKind) (box : OffsetBox) (e : List Offset) 
 acts_by_turned_box x box e fills = acts_by_box x (turned_box box) (reflected e) (turned_same box e fills)
 
 pub acts_by_rank : (e : List Offset) (k : ℕ) → ActsAs (step.Rank e k) (rank e k)
-acts_by_rank e k = record { plain = refl; made = λ f. record { count = refl; kinds = tt }; plane = λ f. refl }
+acts_by_rank e k = record { unsummed = refl; made = λ f. record { count = refl; kinds = tt }; plane = λ f. refl }
 
 pub acts_by_level : (k : ℕ) → ActsAs (step.AtLeast k) (threshold k)
-acts_by_level k = record { plain = refl; made = λ f. record { count = refl; kinds = tt }; plane = λ f. plane_of_one kind.Bit 1 (λ n. cond (nat_le k n) 1 0) f }
+acts_by_level k = record { unsummed = refl; made = λ f. record { count = refl; kinds = tt }; plane = λ f. plane_of_one kind.Bit 1 (λ n. cond (nat_le k n) 1 0) f }
 
 -- what steps do that mean these, by equal lists of offsets
 pub slides_by_offsets : (x : ExtremumKind) (s : PlanStep) (d e : List Offset) → s ≡ by_offsets x d → d ≡ e → ActsAs s (sliding x e)

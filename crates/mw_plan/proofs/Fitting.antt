@@ -203,17 +203,17 @@ drawn_value (shape.Curve n) plan f g drawn last = absurd cc
 
 -- no step is a Sum, so none is read
 none_read : (plan : Plan) → ((k : ℕ) → is_sum (slice_index_or plan k nothing_planned).step ≡ false) → (sources : List Source) → AllByRecursion (IsPlaneSource plan) sources
-none_read plan plain [] = tt
-none_read plan plain (FromInput i ∷ sources) = (tt, none_read plan plain sources)
-none_read plan plain (FromStep i ∷ sources) = (plain i, none_read plan plain sources)
+none_read plan unsummed [] = tt
+none_read plan unsummed (FromInput i ∷ sources) = (tt, none_read plan unsummed sources)
+none_read plan unsummed (FromStep i ∷ sources) = (unsummed i, none_read plan unsummed sources)
 
 makes_means : (Fits : Picture → Type 0) (s : Shape) (count : ℕ) (operator : Picture → Picture) (plan : Plan) → is_image s ≡ true → Makes count operator plan → MeansOf Fits s (λ f. ImageValue (operator f)) plan
 makes_means Fits s count operator plan drawn makes = record {
   some = let some = makes.some in let steps = makes.steps in omega arith;
   few = let few = makes.few in let steps = makes.steps in omega arith;
   sources = makes.sources;
-  planes = λ k. none_read plan makes.plain (slice_index_or plan k nothing_planned).sources;
-  last = λ is. makes.plain (length plan - 1);
+  planes = λ k. none_read plan makes.unsummed (slice_index_or plan k nothing_planned).sources;
+  last = λ is. makes.unsummed (length plan - 1);
   read = makes.read;
   made = λ f fits. makes.made f;
   value = λ f fits. drawn_value s plan f (operator f) drawn (makes.last f);

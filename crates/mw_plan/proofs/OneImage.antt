@@ -25,7 +25,7 @@ alone_makes s operator plan is acts = subst (Makes 1 operator) (sym is) (record 
   few = omega arith;
   steps = refl;
   sources = sources;
-  plain = plain;
+  unsummed = unsummed;
   read = (0, omega arith, (0, omega arith, refl));
   made = made;
   last = acts.plane;
@@ -35,9 +35,9 @@ alone_makes s operator plan is acts = subst (Makes 1 operator) (sym is) (record 
     sources zero = (omega arith, tt)
     sources (suc k) = tt
 
-    plain : (k : ℕ) → is_sum (slice_index_or (of_image s ∷ []) k nothing_planned).step ≡ false
-    plain zero = acts.plain
-    plain (suc k) = refl
+    unsummed : (k : ℕ) → is_sum (slice_index_or (of_image s ∷ []) k nothing_planned).step ≡ false
+    unsummed zero = acts.unsummed
+    unsummed (suc k) = refl
 
     made : (f : Picture) (k : ℕ) → k < 1 → CanBeMade (slice_index_or (of_image s ∷ []) k nothing_planned).step (planes_read (of_image s ∷ []) (f ∷ []) f.width f.height k)
     made f zero lt = acts.made f
@@ -50,7 +50,7 @@ in_turn_makes s t first second acts_first acts_second = record {
   few = omega arith;
   steps = refl;
   sources = sources;
-  plain = plain;
+  unsummed = unsummed;
   read = (0, omega arith, (0, omega arith, refl));
   made = made;
   last = λ f. acts_second.plane (plane_on s f) ∙ ap second (acts_first.plane f);
@@ -61,10 +61,10 @@ in_turn_makes s t first second acts_first acts_second = record {
     sources (suc zero) = (omega arith, tt)
     sources (suc (suc k)) = tt
 
-    plain : (k : ℕ) → is_sum (slice_index_or (of_image s ∷ of_step 0 t ∷ []) k nothing_planned).step ≡ false
-    plain zero = acts_first.plain
-    plain (suc zero) = acts_second.plain
-    plain (suc (suc k)) = refl
+    unsummed : (k : ℕ) → is_sum (slice_index_or (of_image s ∷ of_step 0 t ∷ []) k nothing_planned).step ≡ false
+    unsummed zero = acts_first.unsummed
+    unsummed (suc zero) = acts_second.unsummed
+    unsummed (suc (suc k)) = refl
 
     made : (f : Picture) (k : ℕ) → k < 2 → CanBeMade (slice_index_or (of_image s ∷ of_step 0 t ∷ []) k nothing_planned).step (planes_read (of_image s ∷ of_step 0 t ∷ []) (f ∷ []) f.width f.height k)
     made f zero lt = acts_first.made f
@@ -90,11 +90,11 @@ three_sources s second x y two p q (suc zero) = two
 three_sources s second x y two p q (suc (suc zero)) = (p, (q, tt))
 three_sources s second x y two p q (suc (suc (suc k))) = tt
 
-three_plain : (s : PlanStep) (second : Planned) (x y : Source) → is_sum s ≡ false → is_sum second.step ≡ false → (k : ℕ) → is_sum (slice_index_or (three s second x y) k nothing_planned).step ≡ false
-three_plain s second x y p q zero = p
-three_plain s second x y p q (suc zero) = q
-three_plain s second x y p q (suc (suc zero)) = refl
-three_plain s second x y p q (suc (suc (suc k))) = refl
+three_unsummed : (s : PlanStep) (second : Planned) (x y : Source) → is_sum s ≡ false → is_sum second.step ≡ false → (k : ℕ) → is_sum (slice_index_or (three s second x y) k nothing_planned).step ≡ false
+three_unsummed s second x y p q zero = p
+three_unsummed s second x y p q (suc zero) = q
+three_unsummed s second x y p q (suc (suc zero)) = refl
+three_unsummed s second x y p q (suc (suc (suc k))) = refl
 
 -- the plane of two steps in a row
 abbrev plane_after : PlanStep → PlanStep → Picture → Picture
@@ -111,7 +111,7 @@ below_makes s t first second acts_first acts_second alike = record {
   few = omega arith;
   steps = refl;
   sources = three_sources s (of_step 0 t) (FromInput 0) (FromStep 1) (omega arith, tt) (omega arith) (omega arith);
-  plain = three_plain s (of_step 0 t) (FromInput 0) (FromStep 1) acts_first.plain acts_second.plain;
+  unsummed = three_unsummed s (of_step 0 t) (FromInput 0) (FromStep 1) acts_first.unsummed acts_second.unsummed;
   read = (0, omega arith, (0, omega arith, refl));
   made = made;
   last = λ f. less_of f (plane_after s t f) refl refl ∙ ap (minus f) (after_is s t first second acts_first acts_second f);
@@ -132,7 +132,7 @@ above_makes s t first second acts_first acts_second alike = record {
   few = omega arith;
   steps = refl;
   sources = three_sources s (of_step 0 t) (FromStep 1) (FromInput 0) (omega arith, tt) (omega arith) (omega arith);
-  plain = three_plain s (of_step 0 t) (FromStep 1) (FromInput 0) acts_first.plain acts_second.plain;
+  unsummed = three_unsummed s (of_step 0 t) (FromStep 1) (FromInput 0) acts_first.unsummed acts_second.unsummed;
   read = (0, omega arith, (0, omega arith, refl));
   made = made;
   last = λ f. less_of (plane_after s t f) f refl refl ∙ ap (λ (g : Picture). minus g f) (after_is s t first second acts_first acts_second f);
@@ -153,7 +153,7 @@ difference_makes s t first second plan is acts_first acts_second alike = subst (
   few = omega arith;
   steps = refl;
   sources = three_sources s (of_image t) (FromStep 0) (FromStep 1) (omega arith, tt) (omega arith) (omega arith);
-  plain = three_plain s (of_image t) (FromStep 0) (FromStep 1) acts_first.plain acts_second.plain;
+  unsummed = three_unsummed s (of_image t) (FromStep 0) (FromStep 1) acts_first.unsummed acts_second.unsummed;
   read = (0, omega arith, (0, omega arith, refl));
   made = made;
   last = λ f. less_of (plane_on s f) (plane_on t f) refl refl ∙ ap (λ (g : Picture). minus g (plane_on t f)) (acts_first.plane f) ∙ ap (minus (first f)) (acts_second.plane f);

@@ -69,7 +69,7 @@ turned_box box = record { x0 = neg_ℤ box.x1; x1 = neg_ℤ box.x0; y0 = neg_ℤ
 
 -- the step is no Sum, it can be made of each image, and its plane is this operator of it
 pub record ActsAs (s : PlanStep) (operator : Picture → Picture) : Type 0 where
-  pub plain : is_sum s ≡ false
+  pub unsummed : is_sum s ≡ false
   pub made : (f : Picture) → CanBeMade s (f ∷ [])
   pub plane : (f : Picture) → plane_of s (f ∷ []) f.width f.height ≡ operator f
 
@@ -107,7 +107,7 @@ pub record Makes (count : ℕ) (operator : Picture → Picture) (plan : Plan) : 
   pub few : count ≤ STEP_LIMIT
   pub steps : length plan ≡ count
   pub sources : (k : ℕ) → AllByRecursion (IsSourceAt 1 k) (slice_index_or plan k nothing_planned).sources
-  pub plain : (k : ℕ) → is_sum (slice_index_or plan k nothing_planned).step ≡ false
+  pub unsummed : (k : ℕ) → is_sum (slice_index_or plan k nothing_planned).step ≡ false
   pub read : IsReadBy plan 0
   pub made : (f : Picture) (k : ℕ) → k < length plan → CanBeMade (slice_index_or plan k nothing_planned).step (planes_read plan (f ∷ []) f.width f.height k)
   pub last : (f : Picture) → last_plane plan f ≡ operator f

@@ -3,7 +3,7 @@
 //! An erosion, a dilation, a rank filter and a threshold are one step. An opening and a closing are two: an extremum, and
 //! then the other by the element turned round. A gradient, a top-hat and a hit-or-miss end in a difference.
 
-ghost use Rattle.std.specs.Prelude.{◌≡◌, true, [], ◌∷◌, length, IfOk};
+ghost use Rattle.std.specs.Prelude.{◌≡◌, true, [], ◌∷◌, length, IfOk, None};
 ghost use Rattle.mw_model.specs.Flat.{minus, rank, threshold};
 ghost use Rattle.mw_step_task.specs.Meanings.{meaning};
 ghost use Rattle.mw_plan.specs.Asked.{IsRefusedBy, fault_in, is_element_input, offsets_of_input};
@@ -142,6 +142,22 @@ fn steps(alloc: Global, op: &FlatOp, b: Input<'_>, c: Input<'_>) -> Result<Plan,
     }
 }
 
+/// A plan of an operation with which `shape_of` finds no fault on these inputs, or `NoMemory`.
+pub fn plan_of_legal(
+    alloc: Global,
+    op: &FlatOp,
+    a: Input<'_>,
+    b: Input<'_>,
+    c: Input<'_>,
+) -> Result<Plan, NoMemory>
+    requires legal { fault_in (Op.Flat op.now) a b c ≡ None }
+    ensures steps { IfOk result (λ p. length p ≡ step_count op.now) }
+    ensures plan { IfOk result (IsPlanOf (Op.Flat op.now) a.entry b.entry c.entry) }
+{
+    let plan = steps(alloc, op, b, c)?;
+    Ok(plan)
+}
+
 /// A plan of the operation on these inputs, or its first fault as `shape_of` tells it, or `NoMemory` where memory was
 /// refused.
 pub fn plan_of(
@@ -156,5 +172,5 @@ pub fn plan_of(
     ensures plan { IfOk result (IsPlanOf (Op.Flat op.now) a.entry b.entry c.entry) }
 {
     shape_of(&Op::Flat(*op), a, b, c)?;
-    Ok(steps(alloc, op, b, c)?)
+    Ok(plan_of_legal(alloc, op, a, b, c)?)
 }

@@ -19,7 +19,7 @@ mod sliding;
 
 pub use extremum::ExtremumKind;
 pub use faults::PlanFault;
-pub use flat::plan_of;
+pub use flat::{plan_of, plan_of_legal};
 pub use inputs::Input;
 pub use laws::{
     accepted_runs_have_no_fault, faults_are_refusals, planes_are_of_steps, tasks_of_plans_fit,

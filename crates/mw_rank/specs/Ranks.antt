@@ -1,10 +1,11 @@
 -- Ranks of what is seen under an element.
-use Rattle.std.specs.Prelude.{◌≡◌, ℕ, ◌+◌, ◌*◌, ◌<◌, List, map, length, pos, ◌+ℤ◌, slice_index_or}
+use Rattle.std.specs.Prelude.{◌≡◌, ℕ, ℤ, ◌+◌, ◌*◌, ◌<◌, List, map, length, pos, ◌+ℤ◌, None, slice_index_or}
 use Rattle.std.specs.Option.{option_to_list}
 use Rattle.mw_model.specs.declared.offsets.Offset.{Offset}
 use Rattle.mw_model.specs.declared.offsets.Rect.{Rect}
 use Rattle.mw_model.specs.PlanSteps.{ranked}
-use Rattle.mw_model.specs.Rasters.{Raster, Sight, seen_under}
+use Rattle.mw_model.specs.Rasters.{Raster, Sight, raster, cell_at, seen_under}
+use Rattle.mw_model.specs.Windows.{View}
 
 -- the levels that are seen under the element placed at column x of row y
 abbrev pub levels_under : {A : Type 0} → (A → ℕ) → Sight A → List Offset → ℕ → ℕ → List ℕ
@@ -32,3 +33,19 @@ pub record GainsRow {A : Type 0} (level : A → ℕ) (value : ℕ → ℕ) (n : 
 pub record HasRows {A : Type 0} (level : A → ℕ) (value : ℕ → ℕ → ℕ) (w n : ℕ) (cells : List A) : Type 0 where
   pub size : length cells ≡ n * w
   pub made : (x j : ℕ) (d : A) → x < w → j < n → level (slice_index_or cells (j * w + x) d) ≡ value x j
+
+-- the list has got the ranks of n places of row y, from column x on
+abbrev pub GainsRanks : {A : Type 0} → (A → ℕ) → ℕ → Sight A → List Offset → ℕ → ℕ → ℕ → List A → List A → Type 0
+GainsRanks level k sight element x y n old new = GainsRow level (λ i. ranked k (levels_under level sight element (x + i) y)) n old new
+
+-- the list has the ranks of the first n rows of the tile
+abbrev pub HasRankRows : {A : Type 0} → (A → ℕ) → ℕ → Sight A → List Offset → Rect → ℕ → List A → Type 0
+HasRankRows level k sight element tile n cells = HasRows level (λ x y. ranked k (levels_under level sight element (tile.x + x) (tile.y + y))) tile.width n cells
+
+-- the list has the ranks of all rows of the tile
+abbrev pub HasRanks : {A : Type 0} → (A → ℕ) → ℕ → Sight A → List Offset → Rect → List A → Type 0
+HasRanks level k sight element tile cells = HasRankRows level k sight element tile tile.height cells
+
+-- the view has no cells in that row, which is counted from its first one
+abbrev pub HasNoRow : {A : Type 0} → View A → ℤ → Type 0
+HasNoRow w row = (column : ℤ) → cell_at (raster w.place.width w.place.height w.cells) column row ≡ None

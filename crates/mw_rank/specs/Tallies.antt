@@ -33,3 +33,7 @@ pub record HistogramHolds (top : ℕ) (h : Histogram) (ns : List ℕ) : Type 0 w
   pub others : List ℕ
   pub tallies : Tallies top h (ns ++ others)
   pub few : length (ns ++ others) < 65536
+
+-- the histogram has counted the second levels in place of the first, whatever others it has counted
+abbrev pub Exchanges : ℕ → List ℕ → List ℕ → Histogram → Histogram → Type 0
+Exchanges top left entered old new = (ns : List ℕ) → Tallies top old (left ++ ns) → Tallies top new (entered ++ ns)

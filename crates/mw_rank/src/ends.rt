@@ -1,10 +1,10 @@
 //! The ends of an element's runs along a row where all of them lie in the window, or in rows above or below it: there a
 //! move of the element takes no test.
-ghost use Rattle.std.specs.Prelude.{◌≡◌, ℕ, pos, ◌+ℤ◌, ◌-ℤ◌, ◌+◌, ◌-◌, ◌<◌, ◌≤◌, ◌^◌, List, ◌++◌, IfOk, IfSome, IsTrue};
+ghost use Rattle.std.specs.Prelude.{◌≡◌, ℕ, pos, ◌+ℤ◌, ◌-ℤ◌, ◌+◌, ◌-◌, ◌<◌, ◌≤◌, ◌^◌, IfOk, IfSome, IsTrue};
 ghost use Rattle.mw_model.specs.declared.limits.TheConstants.{FAR_LIMIT};
 ghost use Rattle.mw_model.specs.Windows.{seen_at};
 ghost use Rattle.mw_rank.specs.Ends.{levels_left, levels_entered, HasEnds, AreEnds, AddsEnds};
-ghost use Rattle.mw_rank.specs.Tallies.{Tallies, HistogramHolds};
+ghost use Rattle.mw_rank.specs.Tallies.{HistogramHolds, Exchanges};
 
 use crate::histogram::Histogram;
 use crate::runs::more_of;
@@ -160,7 +160,7 @@ pub(crate) fn exchange_ends<P: Pixel>(
 )
     requires inside { (n : ℕ) × (i < n) × HasEnds samples.now n ends.now }
     requires held { HistogramHolds P.top_level histogram.old (levels_left P.level P.TOP samples.now ends.now i) }
-    ensures { (ns : List ℕ) → Tallies P.top_level histogram.old (levels_left P.level P.TOP samples.now ends.now i ++ ns) → Tallies P.top_level histogram.new (levels_entered P.level P.TOP samples.now ends.now i ++ ns) }
+    ensures { Exchanges P.top_level (levels_left P.level P.TOP samples.now ends.now i) (levels_entered P.level P.TOP samples.now ends.now i) histogram.old histogram.new }
 {
     for e in ends {
         let left = samples[e.first + i].value();

@@ -3,12 +3,11 @@
 ghost use Rattle.std.specs.Prelude.{◌≡◌, ℕ, ◌+◌, ◌*◌, ◌<◌, ◌≤◌, ◌^◌, pos, ◌+ℤ◌, ◌-ℤ◌, List, [], ◌++◌, map, length, vec_capacity, IfOk, IfSome, OnOk};
 ghost use Rattle.std.specs.Option.{option_to_list};
 ghost use Rattle.mw_model.specs.declared.limits.TheConstants.{FAR_LIMIT};
-ghost use Rattle.mw_model.specs.PlanSteps.{ranked};
 ghost use Rattle.mw_model.specs.Rasters.{Raster, raster, cell_at};
 ghost use Rattle.mw_model.specs.Windows.{seen_at};
 ghost use Rattle.mw_tile.specs.Windows.{IsWindow};
 ghost use Rattle.mw_rank.specs.Ends.{AreEnds};
-ghost use Rattle.mw_rank.specs.Ranks.{levels_under, levels_at, IsRank, GainsRow, HasRows};
+ghost use Rattle.mw_rank.specs.Ranks.{levels_under, levels_at, IsRank, GainsRanks, HasRanks};
 ghost use Rattle.mw_rank.specs.Runs.{element_of};
 ghost use Rattle.mw_rank.specs.Tallies.{Tallies, HistogramHasRoom, HasRoomFor, HistogramHolds};
 
@@ -200,7 +199,7 @@ pub(crate) fn push_row<P: Grey>(
     requires high { at.y ≤ FAR_LIMIT }
     requires few { length (element_of runs.now) < 2 ^ 16 }
     requires held { Tallies P.top_level histogram.old (levels_under P.level (seen_at window.now) (element_of runs.now) at.x at.y) }
-    ensures row { OnOk result (GainsRow P.level (λ i. ranked at.k (levels_under P.level (seen_at window.now) (element_of runs.now) (at.x + i) at.y)) at.width out.old.items out.new.items) }
+    ensures row { OnOk result (GainsRanks P.level at.k (seen_at window.now) (element_of runs.now) at.x at.y at.width out.old.items out.new.items) }
     ensures moved { OnOk result (Tallies P.top_level histogram.new (levels_under P.level (seen_at window.now) (element_of runs.now) (at.x + at.width) at.y)) }
 {
     for i in 0..at.width {
@@ -223,7 +222,7 @@ fn push_inside<P: Grey>(
     requires ends { AreEnds P.level P.TOP (seen_at window.now) window.now.cells runs.now at.x at.y at.width ends.now }
     requires few { length (element_of runs.now) < 2 ^ 16 }
     requires held { Tallies P.top_level histogram.old (levels_under P.level (seen_at window.now) (element_of runs.now) at.x at.y) }
-    ensures row { OnOk result (GainsRow P.level (λ i. ranked at.k (levels_under P.level (seen_at window.now) (element_of runs.now) (at.x + i) at.y)) at.width out.old.items out.new.items) }
+    ensures row { OnOk result (GainsRanks P.level at.k (seen_at window.now) (element_of runs.now) at.x at.y at.width out.old.items out.new.items) }
     ensures moved { OnOk result (Tallies P.top_level histogram.new (levels_under P.level (seen_at window.now) (element_of runs.now) (at.x + at.width) at.y)) }
 {
     // for the range of their number
@@ -250,7 +249,7 @@ fn push_middle<P: Grey>(
     requires high { at.y ≤ FAR_LIMIT }
     requires few { length (element_of runs.now) < 2 ^ 16 }
     requires held { Tallies P.top_level histogram.old (levels_under P.level (seen_at window.now) (element_of runs.now) at.x at.y) }
-    ensures row { OnOk result (GainsRow P.level (λ i. ranked at.k (levels_under P.level (seen_at window.now) (element_of runs.now) (at.x + i) at.y)) at.width out.old.items out.new.items) }
+    ensures row { OnOk result (GainsRanks P.level at.k (seen_at window.now) (element_of runs.now) at.x at.y at.width out.old.items out.new.items) }
     ensures moved { OnOk result (Tallies P.top_level histogram.new (levels_under P.level (seen_at window.now) (element_of runs.now) (at.x + at.width) at.y)) }
 {
     if row_ends(ends, window, runs, at.x, at.y, at.width)? {
@@ -275,7 +274,7 @@ fn push_columns<P: Grey>(
     requires few { length (element_of runs.now) < 2 ^ 16 }
     requires inner { row.inner.first + row.inner.count ≤ row.at.width }
     requires held { Tallies P.top_level histogram.old (levels_under P.level (seen_at window.now) (element_of runs.now) row.at.x row.at.y) }
-    ensures row { OnOk result (GainsRow P.level (λ i. ranked row.at.k (levels_under P.level (seen_at window.now) (element_of runs.now) (row.at.x + i) row.at.y)) row.at.width out.old.items out.new.items) }
+    ensures row { OnOk result (GainsRanks P.level row.at.k (seen_at window.now) (element_of runs.now) row.at.x row.at.y row.at.width out.old.items out.new.items) }
     ensures moved { OnOk result (Tallies P.top_level histogram.new (levels_under P.level (seen_at window.now) (element_of runs.now) (row.at.x + row.at.width) row.at.y)) }
 {
     let at = row.at;
@@ -315,7 +314,7 @@ fn push_whole_row<P: Grey>(
     requires few { length (element_of runs.now) < 2 ^ 16 }
     requires inner { row.inner.first + row.inner.count ≤ row.at.width }
     requires empty { Tallies P.top_level histogram.old [] }
-    ensures row { OnOk result (GainsRow P.level (λ i. ranked row.at.k (levels_under P.level (seen_at window.now) (element_of runs.now) (row.at.x + i) row.at.y)) row.at.width out.old.items out.new.items) }
+    ensures row { OnOk result (GainsRanks P.level row.at.k (seen_at window.now) (element_of runs.now) row.at.x row.at.y row.at.width out.old.items out.new.items) }
     ensures empty { OnOk result (Tallies P.top_level histogram.new []) }
 {
     let at = row.at;
@@ -343,7 +342,7 @@ pub(crate) fn rank_samples<P: Grey>(
     tile: Rect,
 ) -> Result<Vec<P>, NoMemory>
     requires few { length offsets.now < 2 ^ 16 }
-    ensures { IfOk result (λ v. HasRows P.level (λ x y. ranked k (levels_under P.level (seen_at window.now) offsets.now (tile.x + x) (tile.y + y))) tile.width tile.height v.items) }
+    ensures { IfOk result (λ v. HasRanks P.level k (seen_at window.now) offsets.now tile v.items) }
 {
     let runs = runs_of(alloc, offsets)?;
     let inner = inner_columns(&runs, tile, window.place());

@@ -1,10 +1,9 @@
 //! What a window shows of an element's runs.
-ghost use Rattle.std.specs.Prelude.{◌≡◌, ℕ, ℤ, pos, ◌+ℤ◌, ◌-ℤ◌, ◌<◌, ◌≤◌, map, min, None, MatchOption};
+ghost use Rattle.std.specs.Prelude.{◌≡◌, ℕ, ℤ, pos, ◌+ℤ◌, ◌-ℤ◌, ◌<◌, ◌≤◌, map, min, MatchOption};
 ghost use Rattle.mw_model.specs.declared.limits.TheConstants.{FAR_LIMIT};
 ghost use Rattle.mw_model.specs.Rectangles.{nonnegative};
-ghost use Rattle.mw_model.specs.Rasters.{raster, cell_at};
 ghost use Rattle.mw_model.specs.Windows.{seen_at};
-ghost use Rattle.mw_rank.specs.Ranks.{levels_under};
+ghost use Rattle.mw_rank.specs.Ranks.{levels_under, HasNoRow};
 ghost use Rattle.mw_rank.specs.Runs.{offsets_of_run};
 
 use crate::runs::more_of;
@@ -15,7 +14,7 @@ use mw_tile::pixel::Grey;
 /// The row of the window in which a run lies, where the window has it.
 pub fn row_in<P: Grey>(window: &Window<P>, run: Run, y: u64) -> Option<usize>
     requires { y ≤ FAR_LIMIT }
-    ensures { MatchOption result ((column : ℤ) → cell_at (raster window.now.place.width window.now.place.height window.now.cells) column (pos y +ℤ run.dy -ℤ pos window.now.place.y) ≡ None) (λ row. (row < window.now.place.height) × (pos y +ℤ run.dy -ℤ pos window.now.place.y ≡ pos row)) }
+    ensures { MatchOption result (HasNoRow window.now (pos y +ℤ run.dy -ℤ pos window.now.place.y)) (λ row. (row < window.now.place.height) × (pos y +ℤ run.dy -ℤ pos window.now.place.y ≡ pos row)) }
 {
     let place = window.place();
     let row = place_of(y, run.dy, place.y);

@@ -10,7 +10,7 @@ ghost use Rattle.mw_bits.specs.mw_pixel_words.Packed.{bit_of, stride_of, IsPacke
 ghost use Rattle.mw_bits.specs.mw_element_runs.Runs.{RunIsInside};
 ghost use Rattle.mw_bits.specs.Layouts.{ExtentIsNear};
 ghost use Rattle.mw_rank_bits.specs.Elements.{lacks_under, IsSetRank, IsMet};
-ghost use Rattle.mw_rank_bits.specs.Walks.{is_below, AreMoves, WordsHaveRoom};
+ghost use Rattle.mw_rank_bits.specs.Walks.{AreMoves, WordsHaveRoom, HasBelow};
 
 use crate::costs::{Load, is_small, pays};
 use crate::element::{Moves, least_load, load_of, moves_of, single_runs};
@@ -112,7 +112,7 @@ fn below_words(
     requires fits { rows.high * (2 * rows.pairs) < 2 ^ 64 }
     requires rows { rows.high * rows.wide + 2 * rows.pairs < 2 ^ 64 }
     ensures size { IfOk result (λ v. vec_len v ≡ rows.high * (2 * rows.pairs)) }
-    ensures bits { IfOk result (λ v. (x y : ℕ) → x < 64 * (2 * rows.pairs) → y < rows.high → bit_of v.items (y * (64 * (2 * rows.pairs)) + x) ≡ is_below digits rows.start cells.now moves.now.seen.items (y * (64 * rows.wide) + x)) }
+    ensures bits { IfOk result (λ v. HasBelow digits rows cells.now moves.now.seen.items v.items) }
 {
     let mut planes = repeated(alloc, 2 * digits, 0)?;
     let mut out = repeated(alloc, rows.high * (2 * rows.pairs), 0)?;

@@ -3,7 +3,7 @@
 ghost use Rattle.std.specs.Prelude.{◌≡◌, ◌⊎◌, ℕ, cond, nat_lt, ◌+◌, ◌-◌, ◌*◌, ◌/◌, ◌^◌, ◌<◌, ◌≤◌, length, slice_index};
 ghost use Rattle.mw_bits.specs.mw_pixel_words.Packed.{bit_of};
 ghost use Rattle.mw_rank_bits.specs.Numbers.{bits_at, number_at};
-ghost use Rattle.mw_rank_bits.specs.Walks.{is_below, AreMoves, WordsHaveRoom, HasColumn};
+ghost use Rattle.mw_rank_bits.specs.Walks.{is_below, AreMoves, WordsHaveRoom, HasColumn, HasBelow};
 
 use crate::counter::{Fewer, More, add_bits};
 use crate::lanes::{all_or_none, load, store, turned};
@@ -109,7 +109,7 @@ pub(crate) fn walk_all(
     requires some { 0 < rows.high }
     requires room { rows.high * (2 * rows.pairs) ≤ length out.old }
     requires fits { rows.high * rows.wide + 2 * rows.pairs < 2 ^ 64 }
-    ensures { (x y : ℕ) → x < 64 * (2 * rows.pairs) → y < rows.high → bit_of out.new (y * (64 * (2 * rows.pairs)) + x) ≡ is_below (length planes.old / 2) rows.start cells.now places.entry.seen.now (y * (64 * rows.wide) + x) }
+    ensures { HasBelow (length planes.old / 2) rows cells.now places.entry.seen.now out.new }
 {
     let _seen = places.seen;
     for i in 0..rows.pairs {

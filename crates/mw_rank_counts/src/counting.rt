@@ -1,12 +1,12 @@
 //! The rank filter by counting, for elements of few offsets: at the columns at which all offsets are in columns of the
 //! window, the level is looked for in 32 columns at once; left and right of them, by the moving histogram.
 ghost use Rattle.std.specs.Prelude.{◌≡◌, ℕ, ◌+◌, ◌-◌, ◌*◌, ◌<◌, ◌≤◌, ◌^◌, length, slice_index_or, IfOk, IfSome, OnOk, IsTrue};
-ghost use Rattle.mw_model.specs.PlanSteps.{ranked};
 ghost use Rattle.mw_model.specs.Rasters.{Raster, cell_at};
 ghost use Rattle.mw_model.specs.Windows.{seen_at};
 ghost use Rattle.mw_rank.specs.mw_tile.Windows.{IsWindow};
-ghost use Rattle.mw_rank.specs.Ranks.{levels_under, IsRank, GainsRow, HasRows};
+ghost use Rattle.mw_rank.specs.Ranks.{IsRank, GainsRow, HasRanks};
 ghost use Rattle.mw_rank_counts.specs.Counting.{AllUnder};
+ghost use Rattle.mw_rank_counts.specs.Sought.{GainsSought, HasSought};
 ghost use Rattle.mw_rank_counts.specs.Squeezed.{BytesHaveRoom};
 
 use crate::Counted;
@@ -53,7 +53,7 @@ fn edge_ranks<P: Grey>(
     tile: Rect,
 ) -> Result<Vec<P>, NoMemory>
     requires { length offsets.now < 2 ^ 16 }
-    ensures { IfOk result (λ v. HasRows P.level (λ x y. ranked k (levels_under P.level (seen_at window.now) offsets.now (tile.x + x) (tile.y + y))) tile.width tile.height v.items) }
+    ensures { IfOk result (λ v. HasRanks P.level k (seen_at window.now) offsets.now tile v.items) }
 {
     if tile.width == 0 {
         return Ok(Vec::new(alloc));
@@ -102,7 +102,7 @@ fn push_inner<P: Counted>(
     requires small { AllUnder P.level P.TOP window.now.cells (2 ^ wanted.search.bits) }
     requires whole { length scratch.old.found.items ≡ 32 }
     requires room { BytesHaveRoom scratch.old.bytes }
-    ensures row { IfOk result (λ known. IsTrue known → GainsRow P.level (λ i. ranked wanted.entry.search.k (levels_under P.level (seen_at window.now) wanted.entry.offsets.now (wanted.entry.tile.x + wanted.entry.inner.first + i) (wanted.entry.tile.y + row))) wanted.entry.inner.count out.old.items out.new.items) }
+    ensures row { IfOk result (λ known. IsTrue known → GainsSought P.level (seen_at window.now) wanted.entry (wanted.entry.tile.x + wanted.entry.inner.first) row wanted.entry.inner.count out.old.items out.new.items) }
     ensures whole { OnOk result (length scratch.new.found.items ≡ 32) }
     ensures room { OnOk result (BytesHaveRoom scratch.new.bytes) }
 {
@@ -143,11 +143,11 @@ fn push_row<P: Counted>(
     requires few { length wanted.offsets.now < 256 }
     requires within { wanted.search.bits ≤ P.BITS }
     requires small { AllUnder P.level P.TOP window.now.cells (2 ^ wanted.search.bits) }
-    requires left { HasRows P.level (λ x y. ranked wanted.search.k (levels_under P.level (seen_at window.now) wanted.offsets.now (wanted.tile.x + x) (wanted.tile.y + y))) wanted.inner.first wanted.tile.height edges.left.now }
-    requires right { HasRows P.level (λ x y. ranked wanted.search.k (levels_under P.level (seen_at window.now) wanted.offsets.now (wanted.tile.x + (wanted.inner.first + wanted.inner.count) + x) (wanted.tile.y + y))) (wanted.tile.width - (wanted.inner.first + wanted.inner.count)) wanted.tile.height edges.right.now }
+    requires left { HasSought P.level (seen_at window.now) wanted wanted.tile.x wanted.inner.first edges.left.now }
+    requires right { HasSought P.level (seen_at window.now) wanted (wanted.tile.x + (wanted.inner.first + wanted.inner.count)) (wanted.tile.width - (wanted.inner.first + wanted.inner.count)) edges.right.now }
     requires whole { length scratch.old.found.items ≡ 32 }
     requires room { BytesHaveRoom scratch.old.bytes }
-    ensures row { IfOk result (λ known. IsTrue known → GainsRow P.level (λ i. ranked wanted.entry.search.k (levels_under P.level (seen_at window.now) wanted.entry.offsets.now (wanted.entry.tile.x + i) (wanted.entry.tile.y + row))) wanted.entry.tile.width out.old.items out.new.items) }
+    ensures row { IfOk result (λ known. IsTrue known → GainsSought P.level (seen_at window.now) wanted.entry wanted.entry.tile.x row wanted.entry.tile.width out.old.items out.new.items) }
     ensures whole { OnOk result (length scratch.new.found.items ≡ 32) }
     ensures room { OnOk result (BytesHaveRoom scratch.new.bytes) }
 {
@@ -171,7 +171,7 @@ fn count_samples<P: Counted>(
     requires inner { wanted.inner.first + wanted.inner.count ≤ wanted.tile.width }
     requires within { wanted.search.bits ≤ P.BITS }
     requires small { AllUnder P.level P.TOP window.now.cells (2 ^ wanted.search.bits) }
-    ensures { IfOk result (λ o. IfSome o (λ v. HasRows P.level (λ x y. ranked wanted.entry.search.k (levels_under P.level (seen_at window.now) wanted.entry.offsets.now (wanted.entry.tile.x + x) (wanted.entry.tile.y + y))) wanted.entry.tile.width wanted.entry.tile.height v.items)) }
+    ensures { IfOk result (λ o. IfSome o (λ v. HasSought P.level (seen_at window.now) wanted.entry wanted.entry.tile.x wanted.entry.tile.width v.items)) }
 {
     let tile = wanted.tile;
     let offsets = wanted.offsets;
@@ -217,7 +217,7 @@ fn counted_samples<P: Counted>(
     k: u32,
     tile: Rect,
 ) -> Result<Option<Vec<P>>, NoMemory>
-    ensures { IfOk result (λ o. IfSome o (λ v. HasRows P.level (λ x y. ranked k (levels_under P.level (seen_at window.now) offsets.now (tile.x + x) (tile.y + y))) tile.width tile.height v.items)) }
+    ensures { IfOk result (λ o. IfSome o (λ v. HasRanks P.level k (seen_at window.now) offsets.now tile v.items)) }
 {
     if offsets.len() >= 256 || tile.x.checked_add(tile.width).is_none() {
         return Ok(None);

@@ -4,6 +4,7 @@ use Rattle.mw_model.specs.PlanSteps.{ranked}
 use Rattle.mw_model.specs.declared.offsets.Offset.{Offset}
 use Rattle.mw_model.specs.Rasters.{Sight}
 use Rattle.mw_rank.specs.Ranks.{levels_at}
+use Rattle.mw_rank_medians.specs.declared.filled.Lines.{Lines}
 use Rattle.mw_rank_medians.specs.Squares.{offset_rows}
 
 -- the first level, or the greatest one where there is none
@@ -31,3 +32,7 @@ line_x down x i r = cond down (x + r) (x + i)
 -- the row of place i of line r
 abbrev pub line_y : Bool → ℕ → ℕ → ℕ → ℕ
 line_y down y i r = cond down (y + i) (y + r)
+
+-- of values at columns and rows, the one at place i of line r
+abbrev pub on_lines : Lines → (ℕ → ℕ → ℕ) → ℕ → ℕ → ℕ
+on_lines lines value = λ i r. value (line_x lines.down lines.x i r) (line_y lines.down lines.y i r)

@@ -4,3 +4,4 @@ pub mod Networks
 pub mod Columns
 pub mod Squares
 pub mod Filled
+pub mod Wanted

@@ -4,7 +4,7 @@ ghost use Rattle.std.specs.Prelude.{◌≡◌, ◌+◌, ◌<◌, ◌≤◌, ◌^
 ghost use Rattle.mw_model.specs.declared.limits.TheConstants.{FAR_LIMIT};
 ghost use Rattle.mw_model.specs.Windows.{seen_at};
 ghost use Rattle.mw_rank.specs.Ranks.{GainsRow, HasRows};
-ghost use Rattle.mw_rank_medians.specs.Filled.{filled_at, filled_rank, line_x, line_y};
+ghost use Rattle.mw_rank_medians.specs.Filled.{filled_at, filled_rank, line_x, on_lines};
 ghost use Rattle.mw_rank_medians.specs.Squares.{IsMedian};
 
 use crate::Vectored;
@@ -55,7 +55,7 @@ fn push_line<P: Grey>(
     lines: Lines,
     line: u32,
 ) -> Result<(), NoMemory>
-    ensures { OnOk result (GainsRow P.level (λ i. filled_at P.level P.top_level (seen_at window.now) offset (line_x lines.down lines.x i line) (line_y lines.down lines.y i line)) lines.length out.old.items out.new.items) }
+    ensures { OnOk result (GainsRow P.level (λ i. on_lines lines (filled_at P.level P.top_level (seen_at window.now) offset) i line) lines.length out.old.items out.new.items) }
 {
     for i in 0..lines.length {
         let x = place_in(lines.down, lines.x, i, line);
@@ -73,7 +73,7 @@ fn filled_lines<P: Grey>(
     offset: Offset,
     lines: Lines,
 ) -> Result<Vec<P>, NoMemory>
-    ensures { IfOk result (λ v. HasRows P.level (λ i r. filled_at P.level P.top_level (seen_at window.now) offset (line_x lines.down lines.x i r) (line_y lines.down lines.y i r)) lines.length lines.count v.items) }
+    ensures { IfOk result (λ v. HasRows P.level (on_lines lines (filled_at P.level P.top_level (seen_at window.now) offset)) lines.length lines.count v.items) }
 {
     let mut out = Vec::with_capacity(alloc, lines.count as usize * lines.length as usize)?;
     for line in 0..lines.count {
@@ -95,7 +95,7 @@ pub(crate) fn filled_medians<P: Vectored>(
     requires long { lines.length + side < 2 ^ 32 }
     requires many { lines.count + side < 2 ^ 32 }
     requires median { IsMedian side k }
-    ensures { IfOk result (λ v. HasRows P.level (λ i r. filled_rank P.level P.top_level (seen_at window.now) first side k (line_x lines.down lines.x i r) (line_y lines.down lines.y i r)) lines.length lines.count v.items) }
+    ensures { IfOk result (λ v. HasRows P.level (on_lines lines (filled_rank P.level P.top_level (seen_at window.now) first side k)) lines.length lines.count v.items) }
 {
     if lines.count == 0 {
         return Ok(Vec::new(alloc));

@@ -6,9 +6,9 @@ ghost use Rattle.mw_model.specs.PlanSteps.{ranked};
 ghost use Rattle.mw_model.specs.Rasters.{Raster, cell_at};
 ghost use Rattle.mw_model.specs.Windows.{seen_at};
 ghost use Rattle.mw_rank.specs.mw_tile.Windows.{IsWindow};
-ghost use Rattle.mw_rank.specs.Ranks.{levels_under, IsRank, GainsRow, HasRows};
+ghost use Rattle.mw_rank.specs.Ranks.{levels_under, IsRank, HasRanks};
 ghost use Rattle.mw_rank_medians.specs.Squares.{offset_rows, IsMedian};
-ghost use Rattle.mw_rank_medians.specs.Filled.{filled_rank};
+ghost use Rattle.mw_rank_medians.specs.Wanted.{GainsWanted, IsFilled, HasFilledColumns};
 
 use crate::Vectored;
 use crate::cut::{gather, number_of};
@@ -113,7 +113,7 @@ fn checked<P: Grey>(
 ) -> Result<P, NoMemory>
     requires few { length wanted.offsets.now < 2 ^ 16 }
     requires square { wanted.offsets.now ≡ offset_rows wanted.first wanted.side wanted.side }
-    requires filled { P.level filled < P.top_level → P.level filled ≡ filled_rank P.level P.top_level (seen_at wanted.window.now) wanted.first wanted.side wanted.k x y }
+    requires filled { IsFilled P.level P.top_level wanted x y filled }
     ensures { IfOk result (λ s. P.level s ≡ ranked wanted.entry.k (levels_under P.level (seen_at wanted.entry.window.now) wanted.entry.offsets.now x y)) }
 {
     if filled.value() < P::TOP.value() {
@@ -135,8 +135,8 @@ fn push_cut<P: Grey>(
     requires near { part.x + part.count < 2 ^ 32 }
     requires high { wanted.tile.y + part.row < 2 ^ 32 }
     requires inside { (i : ℕ) → i < part.count → filled.from + i * filled.step < length filled.medians.now }
-    requires filled { (i : ℕ) → i < part.count → P.level (slice_index_or filled.medians.now (filled.from + i * filled.step) P.TOP) < P.top_level → P.level (slice_index_or filled.medians.now (filled.from + i * filled.step) P.TOP) ≡ filled_rank P.level P.top_level (seen_at wanted.window.now) wanted.first wanted.side wanted.k (part.x + i) (wanted.tile.y + part.row) }
-    ensures { OnOk result (GainsRow P.level (λ i. ranked wanted.entry.k (levels_under P.level (seen_at wanted.entry.window.now) wanted.entry.offsets.now (part.x + i) (wanted.entry.tile.y + part.row))) part.count out.old.items out.new.items) }
+    requires filled { (i : ℕ) → i < part.count → IsFilled P.level P.top_level wanted (part.x + i) (wanted.tile.y + part.row) (slice_index_or filled.medians.now (filled.from + i * filled.step) P.TOP) }
+    ensures { OnOk result (GainsWanted P.level wanted.entry part.x part.row part.count out.old.items out.new.items) }
 {
     let y = wanted.tile.y + part.row;
     for i in 0..part.count {
@@ -158,7 +158,7 @@ fn push_alone<P: Grey>(
     requires square { wanted.offsets.now ≡ offset_rows wanted.first wanted.side wanted.side }
     requires near { part.x + part.count < 2 ^ 32 }
     requires high { wanted.tile.y + part.row < 2 ^ 32 }
-    ensures { OnOk result (GainsRow P.level (λ i. ranked wanted.entry.k (levels_under P.level (seen_at wanted.entry.window.now) wanted.entry.offsets.now (part.x + i) (wanted.entry.tile.y + part.row))) part.count out.old.items out.new.items) }
+    ensures { OnOk result (GainsWanted P.level wanted.entry part.x part.row part.count out.old.items out.new.items) }
 {
     let y = wanted.tile.y + part.row;
     for i in 0..part.count {
@@ -182,8 +182,8 @@ fn push_side<P: Grey>(
     requires near { part.x + part.count < 2 ^ 32 }
     requires high { wanted.tile.y + part.row < 2 ^ 32 }
     requires long { part.row < rows }
-    requires made { 1 ≤ length medians.now → HasRows P.level (λ i r. filled_rank P.level P.top_level (seen_at wanted.window.now) wanted.first wanted.side wanted.k (part.x + r) (wanted.tile.y + i)) rows part.count medians.now }
-    ensures { OnOk result (GainsRow P.level (λ i. ranked wanted.entry.k (levels_under P.level (seen_at wanted.entry.window.now) wanted.entry.offsets.now (part.x + i) (wanted.entry.tile.y + part.row))) part.count out.old.items out.new.items) }
+    requires made { 1 ≤ length medians.now → HasFilledColumns P.level P.top_level wanted part.x rows part.count medians.now }
+    ensures { OnOk result (GainsWanted P.level wanted.entry part.x part.row part.count out.old.items out.new.items) }
 {
     if medians.len() == 0 {
         return push_alone(out, seen, wanted, part);
@@ -226,7 +226,7 @@ fn push_inner<P: Vectored>(
     requires high { wanted.tile.y + row ≤ 2 ^ 31 }
     requires square { wanted.offsets.now ≡ offset_rows wanted.first wanted.side wanted.side }
     requires median { IsMedian wanted.side wanted.k }
-    ensures medians { OnOk result (GainsRow P.level (λ i. ranked wanted.entry.k (levels_under P.level (seen_at wanted.entry.window.now) wanted.entry.offsets.now (wanted.entry.tile.x + wanted.entry.inner.first + i) (wanted.entry.tile.y + row))) wanted.entry.inner.count out.old.items out.new.items) }
+    ensures medians { OnOk result (GainsWanted P.level wanted.entry (wanted.entry.tile.x + wanted.entry.inner.first) row wanted.entry.inner.count out.old.items out.new.items) }
     ensures size { OnOk result (length piece.new ≡ length piece.old) }
 {
     let x = wanted.tile.x + wanted.inner.first;
@@ -295,9 +295,9 @@ fn push_row<P: Vectored>(
     requires square { wanted.offsets.now ≡ offset_rows wanted.first wanted.side wanted.side }
     requires median { IsMedian wanted.side wanted.k }
     requires long { row < sides.length }
-    requires left { 1 ≤ length sides.left.now → HasRows P.level (λ i r. filled_rank P.level P.top_level (seen_at wanted.window.now) wanted.first wanted.side wanted.k (wanted.tile.x + r) (wanted.tile.y + i)) sides.length wanted.inner.first sides.left.now }
-    requires right { 1 ≤ length sides.right.now → HasRows P.level (λ i r. filled_rank P.level P.top_level (seen_at wanted.window.now) wanted.first wanted.side wanted.k (wanted.tile.x + (wanted.inner.first + wanted.inner.count) + r) (wanted.tile.y + i)) sides.length (wanted.tile.width - (wanted.inner.first + wanted.inner.count)) sides.right.now }
-    ensures medians { OnOk result (GainsRow P.level (λ i. ranked wanted.entry.k (levels_under P.level (seen_at wanted.entry.window.now) wanted.entry.offsets.now (wanted.entry.tile.x + i) (wanted.entry.tile.y + row))) wanted.entry.tile.width out.old.items out.new.items) }
+    requires left { 1 ≤ length sides.left.now → HasFilledColumns P.level P.top_level wanted wanted.tile.x sides.length wanted.inner.first sides.left.now }
+    requires right { 1 ≤ length sides.right.now → HasFilledColumns P.level P.top_level wanted (wanted.tile.x + (wanted.inner.first + wanted.inner.count)) sides.length (wanted.tile.width - (wanted.inner.first + wanted.inner.count)) sides.right.now }
+    ensures medians { OnOk result (GainsWanted P.level wanted.entry wanted.entry.tile.x row wanted.entry.tile.width out.old.items out.new.items) }
     ensures size { OnOk result (length piece.new ≡ length piece.old) }
 {
     let tile = wanted.tile;
@@ -331,7 +331,7 @@ fn column_medians<P: Vectored>(
     requires long { length ≤ 2 ^ 31 }
     requires many { count ≤ 2 ^ 31 }
     requires median { IsMedian wanted.side wanted.k }
-    ensures { IfOk result (λ v. HasRows P.level (λ i r. filled_rank P.level P.top_level (seen_at wanted.entry.window.now) wanted.entry.first wanted.entry.side wanted.entry.k (x + r) (wanted.entry.tile.y + i)) length count v.items) }
+    ensures { IfOk result (λ v. HasFilledColumns P.level P.top_level wanted.entry x length count v.items) }
 {
     let columns = Lines {
         x,
@@ -361,7 +361,7 @@ fn side_medians<P: Vectored>(
     requires long { length ≤ 2 ^ 31 }
     requires many { count ≤ 2 ^ 31 }
     requires median { IsMedian wanted.side wanted.k }
-    ensures { IfOk result (λ v. 1 ≤ vec_len v → HasRows P.level (λ i r. filled_rank P.level P.top_level (seen_at wanted.entry.window.now) wanted.entry.first wanted.entry.side wanted.entry.k (x + r) (wanted.entry.tile.y + i)) length count v.items) }
+    ensures { IfOk result (λ v. 1 ≤ vec_len v → HasFilledColumns P.level P.top_level wanted.entry x length count v.items) }
 {
     if count >= wanted.side {
         return Ok(Vec::new(wanted.alloc));
@@ -382,7 +382,7 @@ fn median_samples<P: Vectored>(wanted: Wanted<P>) -> Result<Vec<P>, NoMemory>
     requires inner { wanted.inner.first + wanted.inner.count ≤ wanted.tile.width }
     requires square { wanted.offsets.now ≡ offset_rows wanted.first wanted.side wanted.side }
     requires median { IsMedian wanted.side wanted.k }
-    ensures { IfOk result (λ v. HasRows P.level (λ x y. ranked wanted.entry.k (levels_under P.level (seen_at wanted.entry.window.now) wanted.entry.offsets.now (wanted.entry.tile.x + x) (wanted.entry.tile.y + y))) wanted.entry.tile.width wanted.entry.tile.height v.items) }
+    ensures { IfOk result (λ v. HasRanks P.level wanted.entry.k (seen_at wanted.entry.window.now) wanted.entry.offsets.now wanted.entry.tile v.items) }
 {
     let alloc = wanted.alloc;
     let tile = wanted.tile;
@@ -413,7 +413,7 @@ fn narrow_samples<P: Vectored>(wanted: Wanted<P>) -> Result<Vec<P>, NoMemory>
     requires high { wanted.tile.y + wanted.tile.height ≤ 2 ^ 31 }
     requires square { wanted.offsets.now ≡ offset_rows wanted.first wanted.side wanted.side }
     requires median { IsMedian wanted.side wanted.k }
-    ensures { IfOk result (λ v. HasRows P.level (λ x y. ranked wanted.entry.k (levels_under P.level (seen_at wanted.entry.window.now) wanted.entry.offsets.now (wanted.entry.tile.x + x) (wanted.entry.tile.y + y))) wanted.entry.tile.width wanted.entry.tile.height v.items) }
+    ensures { IfOk result (λ v. HasRanks P.level wanted.entry.k (seen_at wanted.entry.window.now) wanted.entry.offsets.now wanted.entry.tile v.items) }
 {
     let alloc = wanted.alloc;
     let tile = wanted.tile;
@@ -494,7 +494,7 @@ fn by_vectors<P: Vectored>(
     tile: Rect,
 ) -> Result<Option<Vec<P>>, NoMemory>
     requires { length offsets.now < 2 ^ 16 }
-    ensures { IfOk result (λ o. IfSome o (λ v. HasRows P.level (λ x y. ranked k (levels_under P.level (seen_at window.now) offsets.now (tile.x + x) (tile.y + y))) tile.width tile.height v.items)) }
+    ensures { IfOk result (λ o. IfSome o (λ v. HasRanks P.level k (seen_at window.now) offsets.now tile v.items)) }
 {
     if !is_near(tile) {
         return Ok(None);

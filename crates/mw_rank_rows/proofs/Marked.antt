@@ -15,8 +15,8 @@ above a u m s v is less = is ∙ ap (λ (b : Bool). u + m * one_if b) (lt-ltb s 
 pub not_above : (a u m s v : ℕ) → a ≡ u + m * cond (nat_lt s v) 1 0 → v ≤ s → a ≡ u
 not_above a u m s v is le = is ∙ ap (λ (b : Bool). u + m * one_if b) (le-ltb s v le) ∙ (let e : u + m * 0 ≡ u = omega arith in e)
 
-plain : (x y : ℕ) → x ≡ y → x ≡ 0 + y
-plain x y is = omega arith
+nothing_more : (x y : ℕ) → x ≡ y → x ≡ 0 + y
+nothing_more x y is = omega arith
 
 -- what was written for the lanes of a level
 pub record IsPut (s : ℕ) (counts new here made : List ℕ) : Type 0 where
@@ -56,7 +56,7 @@ entered levels u w counts new level s below b here sums marks add lt p sums-are 
   under = λ j within.
       let m = get_or marks j 0 in
       let all = above _ _ m s levels (more levels j within) lt in
-      let add-here = plain _ _ (add-is j within (omega (arith, all, few j within))) in
+      let add-here = nothing_more _ _ (add-is j within (omega (arith, all, few j within))) in
       let up : u level j ≤ u levels j = omega (arith, rises levels u counts level below level (levels - level) j (omega (arith, t.inside)) within t, ap (λ (q : ℕ). u q j) (let e : level + (levels - level) ≡ levels = omega (arith, t.inside) in e)) in
       elim (cases_lt s level) [
         | inl low ↦
@@ -96,7 +96,7 @@ left levels u w counts new level s below b here rest marks less lt p rest-is lan
   under = λ j within.
       let m = get_or marks j 0 in
       let all = above _ _ m s levels (more levels j within) lt in
-      let less-here = plain _ _ (less-is j within (omega (arith, all, t.few j within))) in
+      let less-here = nothing_more _ _ (less-is j within (omega (arith, all, t.few j within))) in
       let full = small levels u counts level below level j (omega (arith, t.inside)) within t in
       elim (cases_lt s level) [
         | inl low ↦

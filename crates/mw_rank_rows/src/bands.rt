@@ -1,9 +1,8 @@
 //! The rank filter of a tile by blocks of numbers: bands of rows under one another, and blocks side by side in each. Where
 //! searches go too far after all, or ranks hardly move, the rows that are left go another way, each of them whole.
 ghost use Rattle.std.specs.Prelude.{◌≡◌, ℕ, ◌+◌, ◌-◌, ◌*◌, ◌<◌, ◌≤◌, ◌^◌, ◌⊎◌, length, slice_index_or, IfOk, IfSome, OnOk};
-ghost use Rattle.mw_model.specs.PlanSteps.{ranked};
 ghost use Rattle.mw_model.specs.Windows.{seen_at};
-ghost use Rattle.mw_rank_counts.specs.mw_rank.Ranks.{levels_under, HasRows};
+ghost use Rattle.mw_rank_counts.specs.mw_rank.Ranks.{HasRanks};
 ghost use Rattle.mw_rank_rows.specs.Blocks.{CutFits, HasColumns};
 ghost use Rattle.mw_rank_rows.specs.Rectangles.{IsRectangle};
 
@@ -99,7 +98,7 @@ fn rank_band<P: Counted>(
     requires some { 1 ≤ wanted.rectangle.rows }
     requires low { wanted.rectangle.rows ≤ 2 ^ 15 }
     requires few { length wanted.offsets.now < 2 ^ 16 }
-    ensures { IfOk result (λ o. IfSome o (λ v. HasRows P.level (λ x y. ranked wanted.entry.k (levels_under P.level (seen_at window.now) wanted.entry.offsets.now (band.x + x) (band.y + y))) band.width band.height v.items)) }
+    ensures { IfOk result (λ o. IfSome o (λ v. HasRanks P.level wanted.entry.k (seen_at window.now) wanted.entry.offsets.now band v.items)) }
 {
     let width = band.width as usize;
     let height = band.height as usize;
@@ -165,7 +164,7 @@ fn rank_bands<P: Counted>(
     requires some { 1 ≤ wanted.rectangle.rows }
     requires low { wanted.rectangle.rows ≤ 2 ^ 15 }
     requires few { length wanted.offsets.now < 2 ^ 16 }
-    ensures { IfOk result (λ v. HasRows P.level (λ x y. ranked wanted.entry.k (levels_under P.level (seen_at window.now) wanted.entry.offsets.now (tile.x + x) (tile.y + y))) tile.width tile.height v.items) }
+    ensures { IfOk result (λ v. HasRanks P.level wanted.entry.k (seen_at window.now) wanted.entry.offsets.now tile v.items) }
 {
     let width = tile.width as usize;
     let mut out = Vec::with_capacity(alloc, tile.height as usize * width)?;
@@ -221,7 +220,7 @@ pub(crate) fn by_numbers<P: Counted>(
     requires inside { tile.y + tile.height < 2 ^ 32 }
     requires rectangle { IsRectangle wanted.rectangle wanted.offsets.now }
     requires few { length wanted.offsets.now < 2 ^ 16 }
-    ensures { IfOk result (λ o. IfSome o (λ v. HasRows P.level (λ x y. ranked wanted.entry.k (levels_under P.level (seen_at window.now) wanted.entry.offsets.now (tile.x + x) (tile.y + y))) tile.width tile.height v.items)) }
+    ensures { IfOk result (λ o. IfSome o (λ v. HasRanks P.level wanted.entry.k (seen_at window.now) wanted.entry.offsets.now tile v.items)) }
 {
     let rows = wanted.rectangle.rows;
     if rows < 2 || rows > 1 << 15 || tile.x.checked_add(tile.width).is_none() {

@@ -2,10 +2,9 @@
 //! levels (`mw_rank_numbers`), so that eight rows at a time search among few numbers, however far levels lie apart. A rank of
 //! numbers is the number of the rank, which is turned back into its level.
 ghost use Rattle.std.specs.Prelude.{◌≡◌, ℕ, ◌+◌, ◌-◌, ◌*◌, ◌<◌, ◌≤◌, ◌^◌, length, IfOk, IfSome};
-ghost use Rattle.mw_model.specs.PlanSteps.{ranked};
 ghost use Rattle.mw_model.specs.Windows.{seen_at};
 ghost use Rattle.mw_rank_counts.specs.Counting.{AllUnder};
-ghost use Rattle.mw_rank_counts.specs.mw_rank.Ranks.{levels_under, HasRows};
+ghost use Rattle.mw_rank_counts.specs.mw_rank.Ranks.{HasRanks};
 ghost use Rattle.mw_rank_numbers.specs.Numbers.{IsNumbering};
 ghost use Rattle.mw_rank_rows.specs.Blocks.{ShowsPart, IsPart};
 ghost use Rattle.mw_rank_rows.specs.Rectangles.{IsRectangle};
@@ -93,7 +92,7 @@ fn rank_eights<P: Grey>(
     requires short { levels < 65536 }
     requires fits { levels ≤ P.top_level + 1 }
     requires under { AllUnder P.level P.TOP window.now.cells levels }
-    ensures { IfOk result (λ o. IfSome o (λ v. HasRows P.level (λ x y. ranked wanted.entry.k (levels_under P.level (seen_at window.now) wanted.entry.offsets.now (place.x + x) (place.y + y))) place.width place.height v.items)) }
+    ensures { IfOk result (λ o. IfSome o (λ v. HasRanks P.level wanted.entry.k (seen_at window.now) wanted.entry.offsets.now place v.items)) }
 {
     let width = place.width as usize;
     let marks = marks_of(alloc, wanted.rectangle.rows as usize)?;
@@ -146,7 +145,7 @@ pub(crate) fn rank_block<P: Grey>(
     requires some { 1 ≤ wanted.rectangle.rows }
     requires low { wanted.rectangle.rows ≤ 2 ^ 15 }
     requires few { length wanted.offsets.now < 2 ^ 16 }
-    ensures { IfOk result (λ o. IfSome o (λ v. HasRows P.level (λ x y. ranked wanted.entry.k (levels_under P.level (seen_at window.now) wanted.entry.offsets.now (place.x + x) (place.y + y))) place.width place.height v.items)) }
+    ensures { IfOk result (λ o. IfSome o (λ v. HasRanks P.level wanted.entry.k (seen_at window.now) wanted.entry.offsets.now place v.items)) }
 {
     let part = part_under(window, wanted.rectangle, place);
     let found = numbers_of(alloc, window, part)?;

@@ -1,8 +1,8 @@
 //! Samples of a column enter eight lanes, or leave them.
 ghost use Rattle.std.specs.Prelude.{◌≡◌, ℕ, ◌+◌, ◌*◌, ◌<◌, ◌≤◌, length, nat_lt, cond, slice_index_or};
 ghost use Rattle.mw_rank_counts.specs.Counting.{AllUnder};
-ghost use Rattle.mw_rank_rows.specs.Columns.{column_count};
-ghost use Rattle.mw_rank_rows.specs.Lanes.{Counts, CountsRise};
+ghost use Rattle.mw_rank_rows.specs.Columns.{sheet_count};
+ghost use Rattle.mw_rank_rows.specs.Lanes.{CountsEnter, CountsLeave};
 
 use crate::search::Front;
 use crate::vectors::{lanes_at, lanes_if, minus, plus, put_lanes};
@@ -26,7 +26,7 @@ fn enter_one(counts: &mut [u16], front: Front, s: usize, marks: Simd<u16, 8>) ->
     requires marks { length marks ≡ 8 }
     ensures size { length counts.new ≡ length counts.old }
     ensures lanes { length result ≡ 8 }
-    ensures counts { (levels : ℕ) (u w : ℕ → ℕ → ℕ) → Counts levels u counts.old front.level front.below → s < levels → ((v j : ℕ) → j < 8 → w v j ≡ u v j + slice_index_or marks j 0 * cond (nat_lt s v) 1 0) → ((j : ℕ) → j < 8 → w levels j < 65536) → Counts levels w counts.new front.level result }
+    ensures counts { CountsEnter (λ levels. s < levels) (λ v j. slice_index_or marks j 0 * cond (nat_lt s v) 1 0) front counts.old counts.new result }
 {
     put_lanes(counts, s * 8, plus(lanes_at(counts, s * 8), marks));
     plus(front.below, lanes_if(s < front.level, marks))
@@ -40,7 +40,7 @@ fn leave_one(counts: &mut [u16], front: Front, s: usize, marks: Simd<u16, 8>) ->
     requires marks { length marks ≡ 8 }
     ensures size { length counts.new ≡ length counts.old }
     ensures lanes { length result ≡ 8 }
-    ensures counts { (levels : ℕ) (u w : ℕ → ℕ → ℕ) → Counts levels u counts.old front.level front.below → s < levels → ((v j : ℕ) → j < 8 → u v j ≡ w v j + slice_index_or marks j 0 * cond (nat_lt s v) 1 0) → CountsRise w → Counts levels w counts.new front.level result }
+    ensures counts { CountsLeave (λ levels. s < levels) (λ v j. slice_index_or marks j 0 * cond (nat_lt s v) 1 0) front counts.old counts.new result }
 {
     put_lanes(counts, s * 8, minus(lanes_at(counts, s * 8), marks));
     minus(front.below, lanes_if(s < front.level, marks))
@@ -59,7 +59,7 @@ pub(crate) fn enter_column<P: Pixel>(
     requires below { length front.below ≡ 8 }
     ensures size { length counts.new ≡ length counts.old }
     ensures lanes { length result ≡ 8 }
-    ensures counts { (levels : ℕ) (u w : ℕ → ℕ → ℕ) → Counts levels u counts.old front.level front.below → AllUnder P.level P.TOP sheet.entry.samples.now levels → ((v j : ℕ) → j < 8 → w v j ≡ u v j + column_count P.level P.TOP sheet.entry.samples.now sheet.entry.width at sheet.entry.marks.now v j sheet.entry.rows) → ((j : ℕ) → j < 8 → w levels j < 65536) → Counts levels w counts.new front.level result }
+    ensures counts { CountsEnter (AllUnder P.level P.TOP sheet.entry.samples.now) (sheet_count P.level P.TOP sheet.entry at) front counts.old counts.new result }
 {
     let mut below = front.below;
     for i in 0..sheet.rows {
@@ -83,7 +83,7 @@ pub(crate) fn leave_column<P: Pixel>(
     requires below { length front.below ≡ 8 }
     ensures size { length counts.new ≡ length counts.old }
     ensures lanes { length result ≡ 8 }
-    ensures counts { (levels : ℕ) (u w : ℕ → ℕ → ℕ) → Counts levels u counts.old front.level front.below → AllUnder P.level P.TOP sheet.entry.samples.now levels → ((v j : ℕ) → j < 8 → u v j ≡ w v j + column_count P.level P.TOP sheet.entry.samples.now sheet.entry.width at sheet.entry.marks.now v j sheet.entry.rows) → CountsRise w → Counts levels w counts.new front.level result }
+    ensures counts { CountsLeave (AllUnder P.level P.TOP sheet.entry.samples.now) (sheet_count P.level P.TOP sheet.entry at) front counts.old counts.new result }
 {
     let mut below = front.below;
     for i in 0..sheet.rows {

@@ -1,8 +1,7 @@
 //! What is left of a tile once no rows go together.
 ghost use Rattle.std.specs.Prelude.{◌+◌, ◌<◌, ◌≤◌, ◌^◌, ◌++◌, ◌≡◌, length, drop, OnOk};
-ghost use Rattle.mw_model.specs.PlanSteps.{ranked};
 ghost use Rattle.mw_model.specs.Windows.{seen_at};
-ghost use Rattle.mw_rank_counts.specs.mw_rank.Ranks.{levels_under, HasRows};
+ghost use Rattle.mw_rank_counts.specs.mw_rank.Ranks.{HasRankRows, HasRanks};
 
 use crate::rectangle::Wanted;
 use mw_model::{NoMemory, Rect};
@@ -32,8 +31,8 @@ pub(crate) fn push_rest<P: Counted>(
     requires few { length wanted.offsets.now < 2 ^ 16 }
     requires within { done ≤ tile.height }
     requires inside { tile.y + tile.height < 2 ^ 32 }
-    requires rows { HasRows P.level (λ x y. ranked wanted.k (levels_under P.level (seen_at window.now) wanted.offsets.now (tile.x + x) (tile.y + y))) tile.width done out.old.items }
-    ensures { OnOk result (HasRows P.level (λ x y. ranked wanted.entry.k (levels_under P.level (seen_at window.now) wanted.entry.offsets.now (tile.x + x) (tile.y + y))) tile.width tile.height out.new.items) }
+    requires rows { HasRankRows P.level wanted.k (seen_at window.now) wanted.offsets.now tile done out.old.items }
+    ensures { OnOk result (HasRanks P.level wanted.entry.k (seen_at window.now) wanted.entry.offsets.now tile out.new.items) }
 {
     if done == tile.height {
         return Ok(());

@@ -1,10 +1,9 @@
 //! The rank filter of a tile, eight rows after eight.
 ghost use Rattle.std.specs.Prelude.{◌≡◌, ℕ, ◌+◌, ◌*◌, ◌<◌, ◌≤◌, ◌^◌, ◌++◌, length, drop, IfOk, IfSome, IsTrue, OnOk};
-ghost use Rattle.mw_model.specs.PlanSteps.{ranked};
 ghost use Rattle.mw_model.specs.Rasters.{Raster, cell_at};
 ghost use Rattle.mw_model.specs.Windows.{seen_at};
 ghost use Rattle.mw_rank_counts.specs.Counting.{AllUnder};
-ghost use Rattle.mw_rank_counts.specs.mw_rank.Ranks.{levels_under, IsRank, HasRows};
+ghost use Rattle.mw_rank_counts.specs.mw_rank.Ranks.{IsRank, HasRanks};
 ghost use Rattle.mw_rank_rows.specs.Rectangles.{IsRectangle};
 ghost use Rattle.mw_rank_counts.specs.mw_tile.Windows.{IsWindow};
 
@@ -43,7 +42,7 @@ fn rank_groups<P: Counted>(
     requires short { levels < 65536 }
     requires fits { levels ≤ P.top_level + 1 }
     requires under { AllUnder P.level P.TOP window.now.cells levels }
-    ensures { IfOk result (λ v. HasRows P.level (λ x y. ranked wanted.entry.k (levels_under P.level (seen_at window.now) wanted.entry.offsets.now (tile.x + x) (tile.y + y))) tile.width tile.height v.items) }
+    ensures { IfOk result (λ v. HasRanks P.level wanted.entry.k (seen_at window.now) wanted.entry.offsets.now tile v.items) }
 {
     let width = tile.width as usize;
     let marks = marks_of(alloc, wanted.rectangle.rows as usize)?;
@@ -113,7 +112,7 @@ fn rank_wanted<P: Counted>(
     requires inside { tile.y + tile.height < 2 ^ 32 }
     requires rectangle { IsRectangle wanted.rectangle wanted.offsets.now }
     requires few { length wanted.offsets.now < 2 ^ 16 }
-    ensures { IfOk result (λ o. IfSome o (λ v. HasRows P.level (λ x y. ranked wanted.entry.k (levels_under P.level (seen_at window.now) wanted.entry.offsets.now (tile.x + x) (tile.y + y))) tile.width tile.height v.items)) }
+    ensures { IfOk result (λ o. IfSome o (λ v. HasRanks P.level wanted.entry.k (seen_at window.now) wanted.entry.offsets.now tile v.items)) }
 {
     let load = load_of(window, wanted.offsets);
     if let Some(samples) = by_numbers(alloc, window, wanted, tile, load)? {
@@ -135,7 +134,7 @@ fn side_by_side<P: Counted>(
     tile: Rect,
 ) -> Result<Option<Vec<P>>, NoMemory>
     requires { length offsets.now < 2 ^ 16 }
-    ensures { IfOk result (λ o. IfSome o (λ v. HasRows P.level (λ x y. ranked k (levels_under P.level (seen_at window.now) offsets.now (tile.x + x) (tile.y + y))) tile.width tile.height v.items)) }
+    ensures { IfOk result (λ o. IfSome o (λ v. HasRanks P.level k (seen_at window.now) offsets.now tile v.items)) }
 {
     if tile.height < 8 || tile.width < 8 || tile.y.checked_add(tile.height).is_none() {
         return Ok(None);

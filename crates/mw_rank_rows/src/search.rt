@@ -1,8 +1,8 @@
 //! The search for the levels of a rank in eight lanes at once. All lanes look from one level on, the front, which moves as
 //! the level of a moving histogram does: so they see the same counters, and lanes of rows that lie beside one another find
 //! their levels close to one another.
-ghost use Rattle.std.specs.Prelude.{◌≡◌, ◌↔◌, ℕ, ◌+◌, ◌-◌, ◌*◌, ◌%◌, ◌<◌, ◌≤◌, ◌⊎◌, IsTrue, length, min, nat_lt, slice_index_or, cond};
-ghost use Rattle.mw_rank_rows.specs.Lanes.{Counts, IsFound};
+ghost use Rattle.std.specs.Prelude.{◌≡◌, ◌↔◌, ℕ, ◌+◌, ◌-◌, ◌*◌, ◌%◌, ◌<◌, ◌≤◌, IsTrue, length, min, nat_lt, slice_index_or, cond};
+ghost use Rattle.mw_rank_rows.specs.Lanes.{Counts, IsFound, HasFewBelow};
 
 use crate::vectors::{all_less, lanes_at, minus, none_less, one_more_below, plus};
 use std::simd::Simd;
@@ -28,7 +28,7 @@ fn lower(counts: &[u16], front: Front, n: Simd<u16, 8>) -> Front
     requires n { length n ≡ 8 }
     requires held { (levels : ℕ) × (u : ℕ → ℕ → ℕ) × Counts levels u counts.now front.level front.below }
     ensures counts { (levels : ℕ) (u : ℕ → ℕ → ℕ) → Counts levels u counts.now front.level front.below → Counts levels u counts.now result.level result.below }
-    ensures few { (j : ℕ) → j < 8 → (slice_index_or result.below j 0 < slice_index_or n j 0) ⊎ (result.level ≡ 0) }
+    ensures few { HasFewBelow result n }
 {
     let mut level = front.level;
     let mut below = front.below;
@@ -44,7 +44,7 @@ fn raise(counts: &[u16], front: Front, n: Simd<u16, 8>) -> Front
     requires n { length n ≡ 8 }
     requires held { (levels : ℕ) × (u : ℕ → ℕ → ℕ) × Counts levels u counts.now front.level front.below × ((j : ℕ) → j < 8 → slice_index_or n j 0 ≤ u levels j) }
     ensures counts { (levels : ℕ) (u : ℕ → ℕ → ℕ) → Counts levels u counts.now front.level front.below → Counts levels u counts.now result.level result.below }
-    ensures few { ((j : ℕ) → j < 8 → (slice_index_or front.below j 0 < slice_index_or n j 0) ⊎ (front.level ≡ 0)) → (j : ℕ) → j < 8 → (slice_index_or result.below j 0 < slice_index_or n j 0) ⊎ (result.level ≡ 0) }
+    ensures few { HasFewBelow front n → HasFewBelow result n }
 {
     let mut level = front.level;
     let mut below = front.below;
@@ -61,7 +61,7 @@ fn raise(counts: &[u16], front: Front, n: Simd<u16, 8>) -> Front
 fn scan(counts: &[u16], front: Front, n: Simd<u16, 8>) -> Found
     requires n { length n ≡ 8 }
     requires held { (levels : ℕ) × (u : ℕ → ℕ → ℕ) × Counts levels u counts.now front.level front.below × ((j : ℕ) → j < 8 → slice_index_or n j 0 ≤ u levels j) }
-    requires few { (j : ℕ) → j < 8 → (slice_index_or front.below j 0 < slice_index_or n j 0) ⊎ (front.level ≡ 0) }
+    requires few { HasFewBelow front n }
     ensures size { length result.levels ≡ 8 }
     ensures found { (levels : ℕ) (u : ℕ → ℕ → ℕ) → Counts levels u counts.now front.level front.below → (j : ℕ) → j < 8 → IsFound levels u (slice_index_or n j 0) j (slice_index_or result.levels j 0) }
 {

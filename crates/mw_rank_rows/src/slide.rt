@@ -1,8 +1,8 @@
 //! Eight rows of results: the element slides along them, and each step takes back one column of samples and counts another.
-ghost use Rattle.std.specs.Prelude.{◌≡◌, ℕ, ◌+◌, ◌-◌, ◌*◌, ◌<◌, ◌≤◌, pos, ◌+ℤ◌, ◌-ℤ◌, length, slice_index_or, IsTrue, MatchOption};
+ghost use Rattle.std.specs.Prelude.{◌≡◌, ℕ, ◌+◌, ◌-◌, ◌*◌, ◌<◌, ◌≤◌, length, slice_index_or, IsTrue, MatchOption};
 ghost use Rattle.mw_model.specs.declared.limits.TheConstants.{FAR_LIMIT};
-ghost use Rattle.mw_rank_rows.specs.Lanes.{CountsRise};
-ghost use Rattle.mw_rank_rows.specs.Tables.{LanesHold, ShowsColumns, ColumnsSlide, HasFound};
+ghost use Rattle.mw_rank_rows.specs.Lanes.{CountsMore, CountersFit, CountsRise};
+ghost use Rattle.mw_rank_rows.specs.Tables.{LanesHold, ShowsColumns, LiesAt, SomeSlide, SomeLowSlide, LanesMove, LanesFind, seen_over};
 
 use crate::column::{Sheet, enter_column, leave_column};
 use crate::lanes::Lanes;
@@ -30,7 +30,7 @@ pub(crate) struct Strip<'a, P: Pixel> {
 #[inline(always)]
 fn column_of<P: Pixel>(strip: Strip<P>, x: u64) -> Option<usize>
     requires { x ≤ FAR_LIMIT }
-    ensures { MatchOption result ((at : ℕ) → at < strip.entry.sheet.width → pos x +ℤ strip.entry.dx -ℤ pos strip.entry.first ≡ pos at → ⊥) (λ at. (at < strip.entry.sheet.width) × (pos x +ℤ strip.entry.dx -ℤ pos strip.entry.first ≡ pos at)) }
+    ensures { MatchOption result ((at : ℕ) → at < strip.entry.sheet.width → LiesAt strip.entry x at → ⊥) (λ at. (at < strip.entry.sheet.width) × LiesAt strip.entry x at) }
 {
     let column = place_of(x, strip.dx, strip.first);
     if column < 0 || column as usize >= strip.sheet.width {
@@ -50,7 +50,7 @@ fn enter<P: Pixel>(
 )
     requires near { x ≤ FAR_LIMIT }
     requires known { (levels : ℕ) × (column : ℕ → ℕ → ℕ → ℕ) × (u : ℕ → ℕ → ℕ) × ShowsColumns P.level P.TOP levels column strip all × LanesHold levels u counts.old lanes.old }
-    ensures { (levels : ℕ) (column : ℕ → ℕ → ℕ → ℕ) (u w : ℕ → ℕ → ℕ) → ShowsColumns P.level P.TOP levels column strip.entry all → LanesHold levels u counts.old lanes.old → ((v j : ℕ) → j < 8 → w v j ≡ u v j + column v x j) → ((j : ℕ) → j < 8 → w levels j < 65536) → LanesHold levels w counts.new lanes.new }
+    ensures { (levels : ℕ) (column : ℕ → ℕ → ℕ → ℕ) (u w : ℕ → ℕ → ℕ) → ShowsColumns P.level P.TOP levels column strip.entry all → LanesHold levels u counts.old lanes.old → CountsMore (λ v j. column v x j) u w → CountersFit levels w → LanesHold levels w counts.new lanes.new }
 {
     if let Some(at) = column_of(strip, x) {
         lanes.front.below = enter_column(counts, lanes.front, strip.sheet, at);
@@ -69,7 +69,7 @@ fn leave<P: Pixel>(
 )
     requires near { x ≤ FAR_LIMIT }
     requires known { (levels : ℕ) × (column : ℕ → ℕ → ℕ → ℕ) × (u : ℕ → ℕ → ℕ) × ShowsColumns P.level P.TOP levels column strip all × LanesHold levels u counts.old lanes.old }
-    ensures { (levels : ℕ) (column : ℕ → ℕ → ℕ → ℕ) (u w : ℕ → ℕ → ℕ) → ShowsColumns P.level P.TOP levels column strip.entry all → LanesHold levels u counts.old lanes.old → ((v j : ℕ) → j < 8 → u v j ≡ w v j + column v x j) → CountsRise w → LanesHold levels w counts.new lanes.new }
+    ensures { (levels : ℕ) (column : ℕ → ℕ → ℕ → ℕ) (u w : ℕ → ℕ → ℕ) → ShowsColumns P.level P.TOP levels column strip.entry all → LanesHold levels u counts.old lanes.old → CountsMore (λ v j. column v x j) w u → CountsRise w → LanesHold levels w counts.new lanes.new }
 {
     if let Some(at) = column_of(strip, x) {
         lanes.front.below = leave_column(counts, lanes.front, strip.sheet, at);
@@ -87,8 +87,8 @@ fn enter_all<P: Pixel>(
     columns: u32,
 )
     requires near { x + columns ≤ FAR_LIMIT }
-    requires known { (levels : ℕ) × (column : ℕ → ℕ → ℕ → ℕ) × (seen : ℕ → ℕ → ℕ → ℕ → ℕ) × ShowsColumns P.level P.TOP levels column strip all × ColumnsSlide columns column seen × LanesHold levels (λ v j. seen v x 0 j) counts.old lanes.old }
-    ensures { (levels : ℕ) (column : ℕ → ℕ → ℕ → ℕ) (seen : ℕ → ℕ → ℕ → ℕ → ℕ) → ShowsColumns P.level P.TOP levels column strip.entry all → ColumnsSlide columns column seen → LanesHold levels (λ v j. seen v x 0 j) counts.old lanes.old → LanesHold levels (λ v j. seen v x columns j) counts.new lanes.new }
+    requires known { SomeSlide P.level P.TOP strip all columns (seen_over x 0) counts.old lanes.old }
+    ensures { LanesMove P.level P.TOP strip.entry all columns (seen_over x 0) counts.old lanes.old (seen_over x columns) counts.new lanes.new }
 {
     for c in 0..columns {
         enter(counts, lanes, strip, all, x + u64::from(c));
@@ -105,8 +105,8 @@ fn leave_all<P: Pixel>(
     columns: u32,
 )
     requires near { x + columns ≤ FAR_LIMIT }
-    requires known { (levels : ℕ) × (column : ℕ → ℕ → ℕ → ℕ) × (seen : ℕ → ℕ → ℕ → ℕ → ℕ) × ShowsColumns P.level P.TOP levels column strip all × ColumnsSlide columns column seen × LanesHold levels (λ v j. seen v x columns j) counts.old lanes.old }
-    ensures { (levels : ℕ) (column : ℕ → ℕ → ℕ → ℕ) (seen : ℕ → ℕ → ℕ → ℕ → ℕ) → ShowsColumns P.level P.TOP levels column strip.entry all → ColumnsSlide columns column seen → LanesHold levels (λ v j. seen v x columns j) counts.old lanes.old → LanesHold levels (λ v j. seen v (x + columns) 0 j) counts.new lanes.new }
+    requires known { SomeSlide P.level P.TOP strip all columns (seen_over x columns) counts.old lanes.old }
+    ensures { LanesMove P.level P.TOP strip.entry all columns (seen_over x columns) counts.old lanes.old (seen_over (x + columns) 0) counts.new lanes.new }
 {
     for c in 0..columns {
         leave(counts, lanes, strip, all, x + u64::from(c));
@@ -177,10 +177,10 @@ fn slide<P: Pixel>(
     requires whole { length made.old ≡ 8 * span.width }
     requires some { 1 ≤ span.columns }
     requires near { span.x + span.width + span.columns ≤ FAR_LIMIT }
-    requires known { (levels : ℕ) × (column : ℕ → ℕ → ℕ → ℕ) × (seen : ℕ → ℕ → ℕ → ℕ → ℕ) × ShowsColumns P.level P.TOP levels column strip all × ColumnsSlide span.columns column seen × LanesHold levels (λ v j. seen v span.x span.columns j) counts.old lanes.old × (levels ≤ P.top_level + 1) }
+    requires known { SomeLowSlide P.level P.TOP P.top_level strip all span.columns (seen_over span.x span.columns) counts.old lanes.old }
     ensures within { result ≤ span.width }
-    ensures moved { (levels : ℕ) (column : ℕ → ℕ → ℕ → ℕ) (seen : ℕ → ℕ → ℕ → ℕ → ℕ) → ShowsColumns P.level P.TOP levels column strip.entry all → ColumnsSlide span.columns column seen → LanesHold levels (λ v j. seen v span.x span.columns j) counts.old lanes.old → LanesHold levels (λ v j. seen v (span.x + result) span.columns j) counts.new lanes.new }
-    ensures found { (levels : ℕ) (column : ℕ → ℕ → ℕ → ℕ) (seen : ℕ → ℕ → ℕ → ℕ → ℕ) → ShowsColumns P.level P.TOP levels column strip.entry all → ColumnsSlide span.columns column seen → LanesHold levels (λ v j. seen v span.x span.columns j) counts.old lanes.old → HasFound P.level levels seen span.columns span.k span.x span.width result made.new }
+    ensures moved { LanesMove P.level P.TOP strip.entry all span.columns (seen_over span.x span.columns) counts.old lanes.old (seen_over (span.x + result) span.columns) counts.new lanes.new }
+    ensures found { LanesFind P.level P.TOP strip.entry all span (seen_over span.x span.columns) counts.old lanes.old result made.new }
     ensures size { length made.new ≡ length made.old }
 {
     let mut steps = 0usize;
@@ -212,9 +212,9 @@ pub(crate) fn rank_rows<P: Pixel>(
     requires whole { length made.old ≡ 8 * span.width }
     requires some { 1 ≤ span.columns }
     requires near { span.x + span.width + span.columns ≤ FAR_LIMIT }
-    requires known { (levels : ℕ) × (column : ℕ → ℕ → ℕ → ℕ) × (seen : ℕ → ℕ → ℕ → ℕ → ℕ) × ShowsColumns P.level P.TOP levels column strip all × ColumnsSlide span.columns column seen × LanesHold levels (λ v j. 0) counts.old lanes.old × (levels ≤ P.top_level + 1) }
-    ensures empty { (levels : ℕ) (column : ℕ → ℕ → ℕ → ℕ) (seen : ℕ → ℕ → ℕ → ℕ → ℕ) → ShowsColumns P.level P.TOP levels column strip.entry all → ColumnsSlide span.columns column seen → LanesHold levels (λ v j. 0) counts.old lanes.old → LanesHold levels (λ v j. 0) counts.new lanes.new }
-    ensures found { IsTrue result → (levels : ℕ) (column : ℕ → ℕ → ℕ → ℕ) (seen : ℕ → ℕ → ℕ → ℕ → ℕ) → ShowsColumns P.level P.TOP levels column strip.entry all → ColumnsSlide span.columns column seen → LanesHold levels (λ v j. 0) counts.old lanes.old → HasFound P.level levels seen span.columns span.k span.x span.width span.width made.new }
+    requires known { SomeLowSlide P.level P.TOP P.top_level strip all span.columns (λ seen v j. 0) counts.old lanes.old }
+    ensures empty { LanesMove P.level P.TOP strip.entry all span.columns (λ seen v j. 0) counts.old lanes.old (λ seen v j. 0) counts.new lanes.new }
+    ensures found { IsTrue result → LanesFind P.level P.TOP strip.entry all span (λ seen v j. 0) counts.old lanes.old span.width made.new }
     ensures size { length made.new ≡ length made.old }
 {
     enter_all(counts, lanes, strip, all, span.x, span.columns);

@@ -46,7 +46,7 @@ pub mod element {
 }
 
 pub mod gran {
-    pub use mw_gran::{Curve, plan_of_any};
+    pub use mw_gran::{Curve, plan_of_legal};
 }
 
 pub mod pixel {
@@ -54,7 +54,7 @@ pub mod pixel {
 }
 
 pub mod plan {
-    pub use mw_gran::plan::{Input, Plan, PlanFault, Source, Sources};
+    pub use mw_gran::plan::{Input, Plan, PlanFault, Source, Sources, shape_of};
 }
 
 pub mod task {

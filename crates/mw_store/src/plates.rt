@@ -66,15 +66,4 @@ impl Plate {
             Share::Tiles(plane) => PlateView::Tiles(plane),
         }
     }
-
-    /// The image in one piece. One that stands in tiles is put together; else others may own its plane too, and no
-    /// sample is copied.
-    pub fn into_image(self, alloc: Global) -> Result<Image, NoMemory>
-        ensures { IfOk result (λ f. f ≡ self) }
-    {
-        match self.share {
-            Share::Image(image) => Ok(image),
-            Share::Tiles(plane) => plane.image(alloc),
-        }
-    }
 }

@@ -88,7 +88,3 @@ window_bounded p r w sound within is =
     subst IsBounded (sym (is f (filled_is_plane p sound)))
     (All-from_get_or (λ n. n ≤ p.maxval) (cells_in r (sample f)) 0
     (λ k lt. cells_in_all (λ n. n ≤ p.maxval) r (sample f) (λ i j across down. sample_bounded f (filled_is_picture p sound) (r.x + i) (r.y + j) (omega arith) (omega arith)) k (omega (arith, length-cells_in r (sample f)))))
-
--- nor have the samples of each
-pub samples_bounded : (p : Tiled) (cells : List ℕ) → TiledIsSound p → ((f : Picture) → IsPlaneOf p f → cells ≡ f.samples) → All (λ n. n ≤ p.maxval) cells
-samples_bounded p cells sound is = subst (λ (t : List ℕ). All (λ n. n ≤ p.maxval) t) (sym (is (filled p) (filled_is_plane p sound))) (filled_is_picture p sound).bounded

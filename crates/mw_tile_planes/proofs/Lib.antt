@@ -5,7 +5,6 @@ pub mod TileTotals
 -- the crate's own
 mod Filled
 mod Windows
-mod Whole
 mod Summed
 -- what lower crates offer
 pub use Rattle.mw_step_task.proofs.mw_element as mw_element

@@ -4,10 +4,8 @@ use crate::{Tile, TilesView};
 use mw_grid::Grid;
 use mw_model::{Kind, NoMemory, Rect};
 use mw_step_task::pieces::{PiecesView, SharedWindow};
-use mw_step_task::pixel::{Bit, Image};
-use mw_tile_slots::{
-    Placed, TiledRows, are_tiles, no_tiles, pieces_of, put, share_tiles, shared_plane,
-};
+use mw_step_task::pixel::Bit;
+use mw_tile_slots::{Placed, TiledRows, are_tiles, no_tiles, pieces_of, put, share_tiles};
 use std::alloc::Global;
 use std::marker::Model;
 
@@ -215,29 +213,6 @@ impl TiledPlane {
                 *m == n && are_tiles(grid, tiles, w)
             }
             _ => false,
-        }
-    }
-
-    /// The image in one piece, once every tile is placed.
-    pub fn image(&self, alloc: Global) -> Result<Image, NoMemory>
-        requires { AllPlaced self.now }
-        ensures { IfOk result (λ g. (f : Picture) → IsPlaneOf self.now f → g ≡ f) }
-    {
-        self.sound();
-        let grid = self.grid;
-        match &self.content {
-            Samples::Bits(tiles) => {
-                let plane = shared_plane(alloc, grid, tiles)?;
-                Ok(Image::bits(plane))
-            }
-            Samples::Grey8(tiles, maxval) => {
-                let plane = shared_plane(alloc, grid, tiles)?;
-                Ok(Image::grey8(plane, *maxval))
-            }
-            Samples::Grey16(tiles, maxval) => {
-                let plane = shared_plane(alloc, grid, tiles)?;
-                Ok(Image::grey16(plane, *maxval))
-            }
         }
     }
 

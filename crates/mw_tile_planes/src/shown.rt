@@ -11,7 +11,6 @@ ghost use Rattle.mw_tile_planes.specs.Views.{ShowsInTiles};
 use crate::{TiledPlane, TilesView};
 use mw_model::{Kind, NoMemory, Rect};
 use mw_step_task::pieces::SharedWindow;
-use mw_step_task::pixel::Image;
 use std::alloc::Global;
 use std::marker::Model;
 
@@ -101,14 +100,6 @@ impl WholePlane {
         ensures picture { IsPicture self.now }
     {
         self.plane.view()
-    }
-
-    /// The image in one piece.
-    pub fn image(&self, alloc: Global) -> Result<Image, NoMemory>
-        ensures { IfOk result (λ f. f ≡ self.now) }
-    {
-        let image = self.plane.image(alloc)?;
-        Ok(image)
     }
 
     /// This image once more, as one more owner of each tile.

@@ -3,6 +3,5 @@ pub mod Sides
 pub mod Numbers
 -- the crate's own
 mod Sharing
-mod Joined
 mod Compared
 mod ReadRows

@@ -23,7 +23,6 @@ pub use equal::are_tiles;
 pub use mw_grid::Grid;
 pub use mw_model::{NoMemory, Rect};
 pub use placed::Placed;
-pub use rows::shared_plane;
 pub use shares::pieces_of;
 pub use slots::{no_tiles, put, share_tiles};
 pub use tiled_rows::TiledRows;

@@ -245,7 +245,7 @@ fn scene(
     }
 }
 
-/// The same with other samples.
+/// An image of this frame with other samples.
 fn changed(
     rt: &impl Abort,
     alloc: Global,

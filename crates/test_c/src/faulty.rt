@@ -9,7 +9,7 @@ use std::process::Abort;
 
 const SIX: [u8; 6] = [3, 0, 7, 200, 5, 9];
 
-/// The same 300 times as great.
+/// Six samples of 16 bits, 300 times as great as those of bytes.
 const SIX_WORDS: [u16; 6] = [900, 0, 2100, 60000, 1500, 2700];
 
 const VOLUME_MARK: u64 = 7777777;

@@ -60,7 +60,7 @@ pub(crate) fn work(rt: &impl Abort, alloc: Global, task: TaskId, last: u8) -> Wo
     }
 }
 
-/// The same with its result.
+/// The work of a task by hand, with its result.
 pub(crate) fn done(rt: &impl Abort, alloc: Global, task: TaskId, last: u8) -> TileDone {
     match run(alloc, work(rt, alloc, task, last)) {
         Ok(done) => done,

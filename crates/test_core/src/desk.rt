@@ -9,6 +9,7 @@ use mw_step::run;
 use mw_step_task::{TaskRefused, TileDone, Work};
 use std::alloc::Global;
 use std::process::Abort;
+use test_plates::whole_image;
 
 /// Five samples.
 pub(crate) const ROW: &[u8] = b"P2\n5 1\n9\n3 1 4 1 5\n";
@@ -240,7 +241,7 @@ pub(crate) fn fetched(
 pub(crate) fn text_of(alloc: Global, value: FetchedValue) -> Option<Vec<u8>> {
     match value {
         FetchedValue::Image(plate) => {
-            let image = plate.into_image(alloc).ok()?;
+            let image = whole_image(alloc, &plate)?;
             write(alloc, &image).ok()
         }
         FetchedValue::Curve(curve) => curve.text(alloc).ok(),

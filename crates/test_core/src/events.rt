@@ -100,7 +100,7 @@ fn handed(rt: &impl Abort, alloc: Global, mut answers: Vec<Answer>) -> Option<Ve
     text_of(alloc, fetched.value)
 }
 
-/// The same of a new core, and how often memory was wanting before.
+/// What a new core hands out, and how often memory was wanting before.
 fn served(rt: &impl Abort, alloc: Global) -> (Option<Vec<u8>>, u32) {
     let mut hands = Hands::new(alloc);
     let mut core = new_core(rt, alloc, &mut hands);

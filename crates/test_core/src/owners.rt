@@ -15,6 +15,7 @@ use mw_step_task::{TileDone, TileResult, Work};
 use std::alloc::Global;
 use std::process::Abort;
 use std::sync::Arc;
+use test_plates::whole_image;
 
 /// A plane of bytes, of which the test is one owner.
 #[derive(Drop)]
@@ -86,7 +87,7 @@ impl Watch {
 fn handed_out(alloc: Global, value: FetchedValue) -> Option<Watched> {
     match value {
         FetchedValue::Image(plate) => {
-            let image = plate.into_image(alloc).ok()?;
+            let image = whole_image(alloc, &plate)?;
             Watched::of_image(&image)
         }
         _ => None,

@@ -28,7 +28,7 @@ pub(crate) enum Job {
     Rest,
     /// The task that was taken last, of all that were not brought, is computed and brought.
     Bring(Finish),
-    /// The same of the one of this tile.
+    /// The task of this tile, among those taken and not brought, is computed and brought.
     BringTile(u32, Finish),
     /// The task that was taken last found no memory.
     GiveUp(Refusal),

@@ -150,7 +150,7 @@ pub(crate) const BY_HAND: &[Turn] = &[
     Do(ByHand(OF_0, 5, Finish::Late)),
     Do(ByHand(OF_1, 5, Finish::Late)),
     Do(ByHand(OF_3, 5, Finish::Late)),
-    // The same of tasks that find no memory.
+    // Tasks of each of these kinds that find no memory.
     Do(GiveUpByHand(OF_STEP_1, Refusal::Stranger)),
     Do(GiveUpByHand(OF_TILE_1, Refusal::Stranger)),
     Do(GiveUpByHand(OF_9, Refusal::Stranger)),

@@ -10,6 +10,7 @@ use mw_step::run;
 use mw_step_task::Work;
 use std::alloc::Global;
 use std::process::Abort;
+use test_plates::whole_image;
 
 /// The side of tiles.
 #[derive(Clone, Copy)]
@@ -99,7 +100,7 @@ pub(crate) fn draws(
 ) {
     match made(rt, alloc, side, task, given_to) {
         FetchedValue::Image(plate) => {
-            let image = plate.into_image(alloc).ok().expect(rt, "memory");
+            let image = whole_image(alloc, &plate).expect(rt, "memory");
             assert!(rt; image.same(&image_of(rt, alloc, wanted)));
         }
         _ => panic!(rt; "an image"),

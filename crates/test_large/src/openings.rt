@@ -152,7 +152,7 @@ fn columns_of_bytes(rt: HostRuntime) {
     columns_are_opened(&rt, rt.alloc(), BYTES);
 }
 
-/// The same over tiles.
+/// Stops where the opening over tiles is another.
 fn is_opened_in_tiles(rt: &impl Abort, alloc: Global, side: Side, form: Form, levels: Levels) {
     let (maxval, level) = levels;
     let bits = pixels(rt, alloc, form);

@@ -11,7 +11,7 @@ use std::process::Abort;
 /// Three pixels in a row.
 const BAR: &[u8] = &[1, 1, 1];
 
-/// The same without the middle, which the origin stands in.
+/// The bar without its middle, which the origin stands in.
 const NEIGHBOURS: &[u8] = &[1, 0, 1];
 
 fn operation_of(rt: &impl Abort, task: Task) -> Option<GranOp> {

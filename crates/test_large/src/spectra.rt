@@ -88,7 +88,7 @@ fn by_neighbours(rt: HostRuntime) {
     }
 }
 
-/// The same over tiles.
+/// Stops where the spectrum over tiles is another.
 fn is_measured_in_tiles(rt: &impl Abort, alloc: Global, b: Bitmap<'_>) {
     let (levels, wanted) = (levels_of(rt, alloc, 9), volumes(rt, alloc, 9));
     let given = (row(&levels, 200), b);

@@ -18,7 +18,7 @@ fn plane_of<P: Planar>(rt: &impl Abort, alloc: Global, sample: P) -> Plane<P>
     once_more!(rt, Plane::filled(alloc, 3, 2, sample))
 }
 
-/// The same, which others can own. Where memory was refused the plane came back, and is handed over once more.
+/// A plane of this sample alone, which others can own. Where memory was refused the plane came back, and is handed over once more.
 fn owned_of<P: Planar>(rt: &impl Abort, alloc: Global, sample: P) -> Arc<Plane<P>>
     ensures { arc_value result ≡ raster 3 2 (replicate 6 sample) }
 {

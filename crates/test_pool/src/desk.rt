@@ -12,6 +12,7 @@ use mw_pool::{Board, Core, FetchedValue, Naming, NewRoll, Pass};
 use std::alloc::Global;
 use std::process::Abort;
 use std::sync::Wait;
+use test_plates::whole_image;
 
 const ROW: &[u8] = b"P2\n5 1\n9\n3 1 4 1 5\n";
 
@@ -157,7 +158,7 @@ pub(crate) fn cancel<R: Wait + Abort, J: Naming>(
 fn text_of(rt: &impl Abort, alloc: Global, value: FetchedValue) -> Vec<u8> {
     match value {
         FetchedValue::Image(plate) => {
-            let image = plate.into_image(alloc).expect(rt, "memory");
+            let image = whole_image(alloc, &plate).expect(rt, "memory");
             write(alloc, &image).expect(rt, "memory")
         }
         _ => Vec::new(alloc),

@@ -1,4 +1,4 @@
-//! The same operators on images as one piece.
+//! The operators of strips on images as one piece.
 
 ghost use Rattle.mw_model.specs.Pictures.{IsImage};
 

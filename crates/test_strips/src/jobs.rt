@@ -127,7 +127,7 @@ pub(crate) fn write_rows<P: Sample>(
     Ok(true)
 }
 
-/// The same operation of the protocol.
+/// The operation of the protocol that a job of strips is.
 pub(crate) fn operation(job: Job, n: Name) -> FlatOp {
     match job {
         Job::Slide(ExtremumKind::Least) => FlatOp::Erode(n, n),

@@ -3,5 +3,5 @@ use Rattle.mw_batch.proofs.script.strict_batch.Goals as goal
 
 pub returns : goal.returns
 returns g c =
-    let ran = c.run_on-plain.ensures in
-    inl (c.run_on-plain.result, ran.0, c.run_on-plain.new.tally.refused, ran.1, c.strict_status.ensures)
+    let ran = c.run_on-status.ensures in
+    inl (c.run_on-status.result, ran.0, c.run_on-status.new.tally.refused, ran.1, c.strict_status.ensures)

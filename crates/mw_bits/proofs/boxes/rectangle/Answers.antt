@@ -9,7 +9,7 @@ use Rattle.mw_bits.proofs.boxes.rectangle.Goals as goal
 
 pub returns-in-Some-clause-over_window : goal.returns-in-Some-clause-over_window
 returns-in-Some-clause-over_window g c =
-    uniform_made g.E.Extremum.merge (g.E.Extremum.neutral_of 1) (cond c.in-Some.pixel 1 0) (seen_at c.args.set.now) (box_offsets c.args.offsets) c.args.tile c.of_words.result (c.of_words.ensures ∙ c.in_ok-plain.ensures) c.in-Some.ensures
+    uniform_made g.E.Extremum.merge (g.E.Extremum.neutral_of 1) (cond c.in-Some.pixel 1 0) (seen_at c.args.set.now) (box_offsets c.args.offsets) c.args.tile c.of_words.result (c.of_words.ensures ∙ c.in_ok-uniform.ensures) c.in-Some.ensures
 
 pub returns-in-Some-clause-over_frame : goal.returns-in-Some-clause-over_frame
 returns-in-Some-clause-over_frame g c = λ f window.

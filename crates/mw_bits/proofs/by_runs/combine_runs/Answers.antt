@@ -4,7 +4,8 @@ use Rattle.mw_model.proofs.mw_facts.Alls.{all-weaker}
 use Rattle.mw_offset.proofs.mw_line.Folds.{IsExtremum}
 use Rattle.mw_offset.specs.mw_element_runs.declared.runs.Run.{Run}
 use Rattle.mw_offset.specs.mw_element_runs.Runs.{RunHasRoom}
-use Rattle.mw_offset.proofs.Gathers.{gather_below, all_below, IsDoubled, grown_more, run_value, none_gathered, gathered_between}
+use Rattle.mw_offset.specs.MergedAt.{run_extremum}
+use Rattle.mw_offset.proofs.Gathers.{gather_below, all_below, IsDoubled, grown_more, none_gathered, gathered_between}
 use Rattle.mw_offset.specs.mw_pixel_words.Packed.{bit_of}
 use Rattle.mw_bits_rows.specs.Rows.{laid_bits}
 use Rattle.mw_bits_rows.proofs.Laid.{length-laid_bits, laid_shifted}
@@ -31,7 +32,7 @@ sizes-init g c =
       cells_size = refl;
       out_size = c.combine_sized.auto.out;
       done = λ n blank q lt.
-          let value = run_value f cells n e wide q in
+          let value = run_extremum f cells n e wide q in
           gathered_between f laws cells cells first.least first.next grown (omega (arith, known.more)) (omega (arith, known.twice)) n e wide (64 * length out) q lt (bit_of out q) (bit_of c.combine_sized.new.out q) runs rooms (c.combine_sized.ensures q n lt)
           (blank q lt ∙ none_gathered f n value e wide (64 * length out) (length cells) runs rooms ∙ ap (λ (t : ℕ). gather_below f n value t runs) least-is);
     }
@@ -69,7 +70,7 @@ sizes-preserved g c =
       cells_size = kept ∙ before.cells_size;
       out_size = c.combine_sized-in-sizes.auto.out ∙ before.out_size;
       done = λ n blank q lt.
-          let value = run_value f cells n e wide q in
+          let value = run_extremum f cells n e wide q in
           gathered_between f laws cells (laid_bits made) after.least after.next grown (omega (arith, known.more)) (omega (arith, known.twice)) n e wide (64 * length out) q lt (bit_of c.sizes.out q) (bit_of c.combine_sized-in-sizes.new.out q) runs rooms
           (c.combine_sized-in-sizes.ensures q n (omega (arith, before.out_size)))
           (before.done n blank q lt ∙ ap (λ (t : ℕ). gather_below f n value t runs) (sym known.least));
@@ -83,4 +84,4 @@ returns g c = λ n blank q lt.
     let next = c.sizes.sizes.next in
     let short : AllByRecursion (λ (r : Run). r.count < next) runs =
     all-weaker (λ (r : Run). r.count < length c.args.counts.now) (λ (r : Run). r.count < next) runs (λ r le. omega arith) c.requires.longest in
-    c.sizes.invariant.done n blank q lt ∙ all_below f n (run_value f cells n c.args.laid.extent c.args.laid.wide q) next runs short
+    c.sizes.invariant.done n blank q lt ∙ all_below f n (run_extremum f cells n c.args.laid.extent c.args.laid.wide q) next runs short

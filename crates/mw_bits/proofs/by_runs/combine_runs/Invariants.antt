@@ -1,5 +1,6 @@
 use Rattle.std.proofs.Common.{◌≡◌, ℕ, ◌-◌, ◌*◌, ◌<◌, ◌≤◌, length}
-use Rattle.mw_offset.proofs.Gathers.{gather_below, run_value, IsDoubled}
+use Rattle.mw_offset.specs.MergedAt.{run_extremum}
+use Rattle.mw_offset.proofs.Gathers.{gather_below, IsDoubled}
 use Rattle.mw_offset.specs.mw_pixel_words.Packed.{bit_of}
 use Rattle.mw_bits_rows.specs.Rows.{laid_bits}
 use Rattle.mw_bits.proofs.by_runs.combine_runs.Given as goal
@@ -13,7 +14,7 @@ invariant-sizes g l =
       grown : IsDoubled f (laid_bits l.fn.cells) (laid_bits l.cells) l.sizes.least;
       cells_size : length l.cells ≡ length l.fn.cells;
       out_size : length l.out ≡ length l.fn.out;
-      done : (n : ℕ) → ((q : ℕ) → q < 64 * length l.fn.out → bit_of l.fn.out q ≡ n) → (q : ℕ) → q < 64 * length l.fn.out → bit_of l.out q ≡ gather_below f n (run_value f (laid_bits l.fn.cells) n l.laid.extent l.laid.wide q) l.sizes.next l.runs;
+      done : (n : ℕ) → ((q : ℕ) → q < 64 * length l.fn.out → bit_of l.fn.out q ≡ n) → (q : ℕ) → q < 64 * length l.fn.out → bit_of l.out q ≡ gather_below f n (run_extremum f (laid_bits l.fn.cells) n l.laid.extent l.laid.wide q) l.sizes.next l.runs;
     }
 
 abbrev pub decreases-sizes : goal.decreases-sizes

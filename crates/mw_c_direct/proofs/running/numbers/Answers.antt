@@ -45,10 +45,10 @@ steps-preserved c =
             numbers = ap (λ (v : Vec ℕ Global). v.items) w.numbers-is ∙ numbers_on plan image k numbers (omega (arith, count, in_time)) (subst number w.in_default.is w.in_ok-n.ensures.number) before.numbers;
           }
       | else-is_sum w ↦
-          let plain : is_sum (slice_index_or plan k nothing_planned).step ≡ false = ap (λ (s : Planned). is_sum s.step) (sym c.step.ensures) ∙ sym c.is_sum.ensures ∙ w.if-is_sum.false in
+          let unsummed : is_sum (slice_index_or plan k nothing_planned).step ≡ false = ap (λ (s : Planned). is_sum s.step) (sym c.step.ensures) ∙ sym c.is_sum.ensures ∙ w.if-is_sum.false in
           record {
             run = subst (λ (r : Run). HasRun plan image r.made.items r.planes.items) (sym w.run-is) before.run;
             unmade = λ i le. ap (λ (r : Run). flag r.made.items i) w.run-is ∙ before.unmade i (omega (arith, le));
-            numbers = ap (λ (v : Vec ℕ Global). v.items) w.numbers-is ∙ numbers_on plan image k numbers (omega (arith, count, in_time)) plain before.numbers;
+            numbers = ap (λ (v : Vec ℕ Global). v.items) w.numbers-is ∙ numbers_on plan image k numbers (omega (arith, count, in_time)) unsummed before.numbers;
           }
     ]

@@ -12,7 +12,7 @@ use Rattle.std.proofs.lemmas.Result.{IfOk-weaker}
 use Rattle.mw_model.specs.Pictures.{Picture}
 use Rattle.mw_c_strips.specs.Layers.{rule_picture}
 use Rattle.mw_c_strips.specs.Parts.{IsStrip, made_picture, part_of}
-use Rattle.mw_c_strips.proofs.Cutting.{place_is, plain_step, read_strip, rule_fits, rule_made, strip_inside}
+use Rattle.mw_c_strips.proofs.Cutting.{place_is, unsummed_step, read_strip, rule_fits, rule_made, strip_inside}
 use Rattle.mw_c_strips.proofs.strips.by_rule.Goals as goal
 
 pub grown-place-requires : goal.grown-place-requires
@@ -35,7 +35,7 @@ made_of-requires c =
     let windows : ws ≡ window_of (place_read s f.width f.height c.args.strip) f ∷ [] = c.in_ok-windows.ensures ∙ ap (λ (w : SourceWindow). w ∷ []) (c.in_ok-seen.ensures.window ∙ ap (λ (t : Rect). window_of t f) place) in
     record {
       fits = rule_fits c.args.rule s f c.args.strip ws c.in_ok-step.ensures (origin_image c.args.f c.requires.sound) c.requires.strip windows;
-      plain = plain_step c.args.rule s c.in_ok-step.ensures;
+      unsummed = unsummed_step c.args.rule s c.in_ok-step.ensures;
       bounded = subst (λ (vs : List SourceWindow). AllByRecursion IsBounded vs) (sym c.in_ok-windows.ensures) (c.in_ok-seen.ensures.bounded, tt);
     }
 

@@ -22,7 +22,7 @@ made_of-requires c =
     let windows = two_windows a b r c.in_ok-first.first c.in_ok-second.second ws c.requires.alike whole c.in_ok-first.ensures.window c.in_ok-second.ensures.window c.in_ok-windows.ensures in
     record {
       fits = two_fit a b r ws c.requires.alike whole windows c.requires.wide c.requires.high;
-      plain = refl;
+      unsummed = refl;
       bounded = subst (λ (vs : List SourceWindow). AllByRecursion IsBounded vs) (sym c.in_ok-windows.ensures) (c.in_ok-first.ensures.bounded, (c.in_ok-second.ensures.bounded, tt));
     }
 

@@ -9,7 +9,7 @@ use Rattle.mw_c_strips.proofs.strips.made_of.Goals as goal
 
 pub into_image-requires : goal.into_image-requires
 into_image-requires c = record {
-  plane = ap is_sum c.in_ok-done.ensures.step ∙ c.requires.plain;
+  plane = ap is_sum c.in_ok-done.ensures.step ∙ c.requires.unsummed;
   bounded = subst (λ (ws : List SourceWindow). AllByRecursion IsBounded ws) (sym c.in_ok-done.ensures.windows) c.requires.bounded;
 }
 

@@ -8,8 +8,8 @@ pub loop-t-preserved : goal.loop-t-preserved
 loop-t-preserved c =
     let keeps : ℕ → Bool = λ k. is_pending (outcome_at c.args.store.now.table.outcomes k) in
     let t = c.loop-t.t in
-    let within : t < length c.loop-t.works = omega (arith, c.requires, c.loop-t.invariant.0, c.len-t-end.ensures.value, c.loop-t-test.true) in
+    let within : t < length c.loop-t.in_progress = omega (arith, c.requires, c.loop-t.invariant.0, c.len-t-end.ensures.value, c.loop-t-test.true) in
     let passes = c.is_pending.ensures ∙ ap is_pending c.outcome.ensures in
-    let now = c.keep_if.ensures ∙ ap (λ b. cond b c.loop-t.works (set c.loop-t.works t None)) passes in
-    let P : List (Option ProgressView) → Type 0 = λ ws. SweptTo keeps c.args.works.now ws (t + 1) in
-    subst P (sym now) (swept-more keeps c.args.works.now c.loop-t.works t within (keeps t) refl c.loop-t.invariant)
+    let now = c.keep_if.ensures ∙ ap (λ b. cond b c.loop-t.in_progress (set c.loop-t.in_progress t None)) passes in
+    let P : List (Option ProgressView) → Type 0 = λ ws. SweptTo keeps c.args.in_progress.now ws (t + 1) in
+    subst P (sym now) (swept-more keeps c.args.in_progress.now c.loop-t.in_progress t within (keeps t) refl c.loop-t.invariant)

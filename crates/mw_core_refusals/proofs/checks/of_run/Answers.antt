@@ -1,7 +1,7 @@
 use Rattle.std.proofs.Common.{Some, sym, ap, ◌∙◌}
 use Rattle.std.specs.Prelude.{option_map}
 use Rattle.mw_model.specs.Refusals.{inputs_wanted}
-use Rattle.mw_plan.specs.Faults.{plan_code}
+use Rattle.mw_store.specs.mw_plan.Faults.{plan_code}
 use Rattle.mw_core_refusals.proofs.FoundLemmas.{below-found, legal, submission-found}
 use Rattle.mw_core_refusals.proofs.checks.of_run.Goals as goal
 

@@ -5,7 +5,8 @@ use Rattle.mw_line.proofs.Folds.{IsExtremum}
 use Rattle.mw_element_runs.specs.declared.runs.Run.{Run}
 use Rattle.mw_element_runs.specs.Runs.{RunHasRoom}
 use Rattle.mw_offset.proofs.Rooms.{row_fits}
-use Rattle.mw_offset.proofs.Gathers.{gather_below, all_below, IsDoubled, grown_more, run_value, none_gathered, gathered_between}
+use Rattle.mw_offset.specs.MergedAt.{run_extremum}
+use Rattle.mw_offset.proofs.Gathers.{gather_below, all_below, IsDoubled, grown_more, none_gathered, gathered_between}
 use Rattle.mw_offset.proofs.by_runs.combine_runs.Goals as goal
 use Rattle.mw_offset.proofs.by_runs.combine_runs.Goals.{then-sizes-test+else-sizes-cells, else-sizes-test}
 
@@ -29,7 +30,7 @@ sizes-init g c =
       done = λ n blank x y less row_less.
           let q = y * laid.wide + x in
           let here = row_fits y laid.height laid.wide laid.width (count - 63) row_less (omega arith) in
-          let value = run_value f cells n laid.extent laid.wide q in
+          let value = run_extremum f cells n laid.extent laid.wide q in
           gathered_between f laws cells cells first.least first.next grown (omega (arith, c.next_size-sizes.ensures.more)) (omega (arith, c.next_size-sizes.ensures.twice)) n laid.extent laid.wide count q (omega (arith, here))
           (get_or out (y * laid.width + x) n) (get_or c.combine_sized.new.out (y * laid.width + x) n) runs c.requires.room (c.in_ok-combine_sized.ensures x y n less row_less)
           (blank (y * laid.width + x) ∙ none_gathered f n value laid.extent laid.wide count (length cells) runs c.requires.room ∙ ap (λ (t : ℕ). gather_below f n value t runs) least-is);
@@ -60,7 +61,7 @@ sizes-preserved g c =
       done = λ n blank x y less row_less.
           let q = y * laid.wide + x in
           let here = row_fits y laid.height laid.wide laid.width (count - 63) row_less (omega arith) in
-          let value = run_value f cells n laid.extent laid.wide q in
+          let value = run_extremum f cells n laid.extent laid.wide q in
           gathered_between f laws cells made after.least after.next grown (omega (arith, c.next_size-sizes-in-sizes.ensures)) (omega (arith, c.next_size-sizes-in-sizes.ensures)) n laid.extent laid.wide count q (omega (arith, here))
           (get_or c.sizes.out (y * laid.width + x) n) (get_or c.combine_sized-in-sizes.new.out (y * laid.width + x) n) runs c.requires.room (c.in_ok-combine_sized-2.ensures x y n less row_less)
           (before.done n blank x y less row_less ∙ ap (λ (t : ℕ). gather_below f n value t runs) (sym c.next_size-sizes-in-sizes.ensures.least));
@@ -85,4 +86,4 @@ returns g c = λ n blank x y less row_less.
           let past : longest < next = omega arith in
           all-weaker (λ (r : Run). r.count ≤ longest) (λ (r : Run). r.count < next) runs (λ r le. omega arith) c.longest_of-longest.ensures.all
     ] in
-    c.sizes.invariant.done n blank x y less row_less ∙ all_below f n (run_value f cells n laid.extent laid.wide (y * laid.wide + x)) next runs short
+    c.sizes.invariant.done n blank x y less row_less ∙ all_below f n (run_extremum f cells n laid.extent laid.wide (y * laid.wide + x)) next runs short

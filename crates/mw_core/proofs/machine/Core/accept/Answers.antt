@@ -32,8 +32,8 @@ returns-in-Ok-clause-kept c = ap (λ (b : Book). b.kept) c.in-Ok.ensures.ok ∙ 
 
 pub returns-in-Ok-clause-work : goal.returns-in-Ok-clause-work
 returns-in-Ok-clause-work c =
-    ap (λ (b : Book). map (option_map progress_of) b.works) c.in-Ok.ensures.ok
-    ∙ map-append (option_map progress_of) c.self.inside.ledger.works (c.args.progress ∷ [])
+    ap (λ (b : Book). map (option_map progress_of) b.in_progress) c.in-Ok.ensures.ok
+    ∙ map-append (option_map progress_of) c.self.inside.ledger.in_progress (c.args.progress ∷ [])
     ∙ ap (λ (d : CoreView). d.work ++ option_map progress_of c.args.progress ∷ []) c.self.view_is
 
 pub returns-in-Ok-clause-log : goal.returns-in-Ok-clause-log
@@ -48,7 +48,7 @@ invariant_of-self-in-Err c =
     let new = c.accept.new.self in
     let back : c.shrink.new.self ≡ c.self.inside.counts = c.shrink.ensures c.self.inside.counts c.in_ok-grow.ensures in
     let Right : Tally → Type 0 = λ k. AreCounts (seen_of new) k in
-    subst Right (sym back) (counts-kept c.self.inside.ledger new c.self.inside.counts (ap (λ (b : Book). b.table) is) (ap (λ (b : Book). b.works) is) c.self.invariant)
+    subst Right (sym back) (counts-kept c.self.inside.ledger new c.self.inside.counts (ap (λ (b : Book). b.table) is) (ap (λ (b : Book). b.in_progress) is) c.self.invariant)
 
 pub returns-in-Err-clause-side : goal.returns-in-Err-clause-side
 returns-in-Err-clause-side c = ap (λ (b : Book). b.side) c.in-Err.ensures.err ∙ ap (λ (d : CoreView). d.side) c.self.view_is

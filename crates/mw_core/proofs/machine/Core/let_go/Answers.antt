@@ -13,9 +13,9 @@ use Rattle.mw_core.proofs.machine.Core.let_go.Goals as goal
 
 -- the counts of what is let go, or of what stays where there was no memory
 counts-after : {A E : Type 0} → (r : Result A E) (b new : Book) (t : ℕ) (k : Tally) → IsOrderly b → AreCounts (seen_of b) k → t < length b.table.names → outcome_at b.table.outcomes t ≡ outcome.Done
-    → OnOk r (new.table ≡ settled b.table t outcome.Released) → OnOk r (new.works ≡ b.works) → OnErr r (new ≡ b) → AreCounts (seen_of new) k
-counts-after (Ok x) b new t k orderly right within done table works same = counts-released b new t k orderly right within done table works
-counts-after (Err e) b new t k orderly right within done table works same = let Right : Book → Type 0 = λ x. AreCounts (seen_of x) k in subst Right (sym same) right
+    → OnOk r (new.table ≡ settled b.table t outcome.Released) → OnOk r (new.in_progress ≡ b.in_progress) → OnErr r (new ≡ b) → AreCounts (seen_of new) k
+counts-after (Ok x) b new t k orderly right within done table in_progress same = counts-released b new t k orderly right within done table in_progress
+counts-after (Err e) b new t k orderly right within done table in_progress same = let Right : Book → Type 0 = λ x. AreCounts (seen_of x) k in subst Right (sym same) right
 
 pub invariant_of-self : goal.invariant_of-self
 invariant_of-self c =
@@ -24,7 +24,7 @@ invariant_of-self c =
     let Within : CoreView → Type 0 = λ d. t < length d.table.names in
     let Done : CoreView → Type 0 = λ d. outcome_at d.table.outcomes t ≡ outcome.Done in
     let got = c.let_go.ensures in
-    counts-after c.let_go.result c.self.inside.ledger c.let_go.new.self t c.self.inside.counts c.sound.ensures c.self.invariant (subst Within shown c.requires.within) (subst Done shown c.requires.done) got.table got.works got.err
+    counts-after c.let_go.result c.self.inside.ledger c.let_go.new.self t c.self.inside.counts c.sound.ensures c.self.invariant (subst Within shown c.requires.within) (subst Done shown c.requires.done) got.table got.in_progress got.err
 
 pub returns-clause-log : goal.returns-clause-log
 returns-clause-log c =

@@ -11,7 +11,7 @@ use Rattle.mw_core.proofs.machine.Core.note.Goals as goal
 pub invariant_of-self-2 : goal.invariant_of-self-2
 invariant_of-self-2 c =
     let is = c.in_ok-note.ensures.ok in
-    counts-kept c.self.inside.ledger c.note.new.self c.self.inside.counts (ap (λ (b : Book). b.table) is) (ap (λ (b : Book). b.works) is) c.self.invariant
+    counts-kept c.self.inside.ledger c.note.new.self c.self.inside.counts (ap (λ (b : Book). b.table) is) (ap (λ (b : Book). b.in_progress) is) c.self.invariant
 
 pub returns-clause-ok : goal.returns-clause-ok
 returns-clause-ok c = ap seen_of c.in_ok-note.ensures.ok ∙ ap (λ (d : CoreView). record d { log = d.log ++ item.Call c.args.call c.args.reply ∷ [] }) c.self.view_is

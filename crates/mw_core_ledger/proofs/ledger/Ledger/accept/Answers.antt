@@ -16,14 +16,14 @@ invariant_of-self-2 c =
     let Joins : Book → Type 0 = λ b. CanJoin b e c.args.progress in
     let can : CanJoin c.args.self.now e c.args.progress = record { below = c.requires.below; fits = c.requires.fits; planned = c.requires.planned; left = c.requires.left; most = c.requires.most } in
     let book : Book
-    = record { table = c.self.inside.store.table; kept = c.self.inside.store.kept; works = c.self.inside.works.items; log = c.self.inside.log.items; side = c.self.inside.side; room = room_in c.self.inside.log.cap c.self.inside.log.len c.self.inside.store.table.outcomes } in
+    = record { table = c.self.inside.store.table; kept = c.self.inside.store.kept; in_progress = c.self.inside.in_progress.items; log = c.self.inside.log.items; side = c.self.inside.side; room = room_in c.self.inside.log.cap c.self.inside.log.len c.self.inside.store.table.outcomes } in
     let room = room_in c.push_reserved-2.new.self.cap c.push_reserved-2.new.self.len c.add.new.self.table.outcomes in
     let table = c.in_ok-t.ensures.table in
     let Whole : Table → Type 0 = λ w. StoreIsWhole (record { table = w; kept = c.add.new.self.kept }) in
     let whole = subst Whole table c.pending-whole.ensures.whole in
     let order = joined-orderly book c.args.name e (outcome_of c.args.entry) c.add.new.self.kept c.args.progress c.push_reserved-2.new.self.items room c.self.invariant.1 (subst Joins (sym c.self.view_is) can) (planned-pends c.args.self.now.table c.args.entry c.args.progress c.requires.planned) whole in
-    let Tabled : Table → Type 0 = λ w. IsOrderly (record { table = w; kept = c.add.new.self.kept; works = book.works ++ c.args.progress ∷ []; log = c.push_reserved-2.new.self.items; side = book.side; room = room }) in
-    let Worked : List (Option ProgressView) → Type 0 = λ ws. IsOrderly (record { table = c.add.new.self.table; kept = c.add.new.self.kept; works = ws; log = c.push_reserved-2.new.self.items; side = book.side; room = room }) in
+    let Tabled : Table → Type 0 = λ w. IsOrderly (record { table = w; kept = c.add.new.self.kept; in_progress = book.in_progress ++ c.args.progress ∷ []; log = c.push_reserved-2.new.self.items; side = book.side; room = room }) in
+    let Worked : List (Option ProgressView) → Type 0 = λ ws. IsOrderly (record { table = c.add.new.self.table; kept = c.add.new.self.kept; in_progress = ws; log = c.push_reserved-2.new.self.items; side = book.side; room = room }) in
     let pushed = c.push_reserved.ensures.items ∙ ap (λ (ws : List (Option ProgressView)). ws ++ c.args.progress ∷ []) c.reserve_row.ensures.items in
     let pending = ap (λ (w : Table). count_by is_pending w.outcomes) table in (
       (
@@ -38,7 +38,7 @@ pub invariant_of-self-in_err-reserve_row : goal.invariant_of-self-in_err-reserve
 invariant_of-self-in_err-reserve_row c =
     let b = c.self.inside in
     let log = c.make_places.new.log in
-    let book : Book = record { table = b.store.table; kept = b.store.kept; works = b.works.items; log = b.log.items; side = b.side; room = room_in b.log.cap b.log.len b.store.table.outcomes } in (
+    let book : Book = record { table = b.store.table; kept = b.store.kept; in_progress = b.in_progress.items; log = b.log.items; side = b.side; room = room_in b.log.cap b.log.len b.store.table.outcomes } in (
       (
         omega (arith, c.pending.ensures.value, c.in_ok-make_places.ensures.ok, c.make_places.ensures.len),
         c.make_places.ensures.rows,
@@ -51,15 +51,15 @@ pub invariant_of-self-in_err-t : goal.invariant_of-self-in_err-t
 invariant_of-self-in_err-t c =
     let b = c.self.inside in
     let log = c.make_places.new.log in
-    let works = c.reserve_row.new.column in
-    let book : Book = record { table = b.store.table; kept = b.store.kept; works = b.works.items; log = b.log.items; side = b.side; room = room_in b.log.cap b.log.len b.store.table.outcomes } in
-    let Holds : Stored → Type 0 = λ s. ((log.len + count_by is_pending s.table.outcomes ≤ log.cap) × (log.cap % 16 ≡ 0) × HasRow works.len works.cap)
-    × IsOrderly (record { table = s.table; kept = s.kept; works = works.items; log = log.items; side = b.side; room = room_in log.cap log.len s.table.outcomes }) in
+    let in_progress = c.reserve_row.new.column in
+    let book : Book = record { table = b.store.table; kept = b.store.kept; in_progress = b.in_progress.items; log = b.log.items; side = b.side; room = room_in b.log.cap b.log.len b.store.table.outcomes } in
+    let Holds : Stored → Type 0 = λ s. ((log.len + count_by is_pending s.table.outcomes ≤ log.cap) × (log.cap % 16 ≡ 0) × HasRow in_progress.len in_progress.cap)
+    × IsOrderly (record { table = s.table; kept = s.kept; in_progress = in_progress.items; log = log.items; side = b.side; room = room_in log.cap log.len s.table.outcomes }) in
     subst Holds (sym c.in_err-t.ensures.err) (
       (
         omega (arith, c.pending.ensures.value, c.in_ok-make_places.ensures.ok, c.make_places.ensures.len),
         c.make_places.ensures.rows,
         omega (arith, c.self.invariant.0.2, c.reserve_row.ensures.len, c.reserve_row.ensures.capacity),
       ),
-      alike-orderly book works.items log.items (room_in log.cap log.len b.store.table.outcomes) c.self.invariant.1 c.reserve_row.ensures.items,
+      alike-orderly book in_progress.items log.items (room_in log.cap log.len b.store.table.outcomes) c.self.invariant.1 c.reserve_row.ensures.items,
     )

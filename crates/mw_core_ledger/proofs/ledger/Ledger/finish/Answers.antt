@@ -15,7 +15,7 @@ invariant_of-self c =
     let b = c.self.inside in
     let u = c.finished-progress.result in
     let d = c.args.done in
-    let mid : Book = record { table = b.store.table; kept = b.store.kept; works = b.works.items; log = b.log.items; side = b.side; room = room_in b.log.cap b.log.len b.store.table.outcomes } in
+    let mid : Book = record { table = b.store.table; kept = b.store.kept; in_progress = b.in_progress.items; log = b.log.items; side = b.side; room = room_in b.log.cap b.log.len b.store.table.outcomes } in
     let e = ap (λ (i : TaskId). i.ticket) c.task-t.ensures in
     let left : 1 ≤ remaining_tasks u.progress = omega (arith, c.if-remaining-gt0.true, c.remaining.ensures.value) in
     let P : Book → Type 0 = λ v. IsOrderly v in
@@ -25,7 +25,7 @@ pub returns-then-remaining-gt0-clause-placed : goal.returns-then-remaining-gt0-c
 returns-then-remaining-gt0-clause-placed c = λ _.
     let b = c.self.inside in
     let u = c.finished-progress.result in
-    let mid : Book = record { table = b.store.table; kept = b.store.kept; works = b.works.items; log = b.log.items; side = b.side; room = room_in b.log.cap b.log.len b.store.table.outcomes } in
+    let mid : Book = record { table = b.store.table; kept = b.store.kept; in_progress = b.in_progress.items; log = b.log.items; side = b.side; room = room_in b.log.cap b.log.len b.store.table.outcomes } in
     let e = ap (λ (i : TaskId). i.ticket) c.task-t.ensures in
     let left : 1 ≤ remaining_tasks u.progress = omega (arith, c.if-remaining-gt0.true, c.remaining.ensures.value) in
     places-at c.args.self.now mid c.args.done c.task-t.result.ticket u e c.finished-progress.ensures.finishes (c.self.view_is ∙ c.finished-progress.ensures.book) left
@@ -35,7 +35,7 @@ settle-requires-clause-empty c =
     let old = c.args.self.now in
     let t = c.args.done.task.ticket in
     let e = ap (λ (i : TaskId). i.ticket) c.task-t.ensures in
-    ap (λ (v : Book). work_at v.works c.task-t.result.ticket) c.finished-progress.ensures.book ∙ ap (work_at (set old.works t None)) e ∙ none-left old.works t
+    ap (λ (v : Book). work_at v.in_progress c.task-t.result.ticket) c.finished-progress.ensures.book ∙ ap (work_at (set old.in_progress t None)) e ∙ none-left old.in_progress t
 
 pub returns-clause-settled : goal.returns-clause-settled
 returns-clause-settled c =
@@ -45,7 +45,7 @@ returns-clause-settled c =
     let last : remaining_tasks u.progress ≡ 0 = omega (arith, c.if-remaining-gt0.false, c.remaining.ensures.value) in
     let shaped = c.shape.ensures ∙ ap (λ (v : Book). shape_at v.table.submissions c.task-t.result.ticket) c.self.view_is in
     settles-at c.args.self.now c.finished-progress.new.self c.args.done c.task-t.result.ticket u c.settle.new.self c.shape.result (kept_value c.value_of-value.result) e c.finished-progress.ensures.finishes c.finished-progress.ensures.book last shaped c.value_of-value.ensures
-    (record { table = told.table; kept = told.kept; works = told.works; log = told.log; side = told.side })
+    (record { table = told.table; kept = told.kept; in_progress = told.in_progress; log = told.log; side = told.side })
 
 pub returns-clause-waiting : goal.returns-clause-waiting
 returns-clause-waiting c =

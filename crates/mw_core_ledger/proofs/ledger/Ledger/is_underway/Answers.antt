@@ -10,8 +10,8 @@ returns-in-Some c =
     let k = c.args.task in
     let u = c.in-Some.progress in
     let names = ap (λ (v : Book). length v.table.names) c.self.view_is in
-    let there = found b.works.items k.ticket c.index.result.now u (omega (arith, c.requires, names, c.self.invariant.1.works)) c.index.ensures c.in-Some.is in
-    let book : Book = record { table = b.store.table; kept = b.store.kept; works = b.works.items; log = b.log.items; side = b.side; room = room_in b.log.cap b.log.len b.store.table.outcomes } in
+    let there = found b.in_progress.items k.ticket c.index.result.now u (omega (arith, c.requires, names, c.self.invariant.1.in_progress)) c.index.ensures c.in-Some.is in
+    let book : Book = record { table = b.store.table; kept = b.store.kept; in_progress = b.in_progress.items; log = b.log.items; side = b.side; room = room_in b.log.cap b.log.len b.store.table.outcomes } in
     let whole = c.remaining-whole.ensures.whole in
     let P : Book → Type 0 = λ v. IsTrue c.is_running.result ↔ IsUnderway (seen_of v) k in
     subst P c.self.view_is (λ r. runs-underway book k u there whole (c.is_running.ensures.0 r), λ w. c.is_running.ensures.1 (underway-runs book k u there whole w))

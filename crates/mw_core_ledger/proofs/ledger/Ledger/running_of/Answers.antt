@@ -10,5 +10,5 @@ returns-in-Some-clause-small c =
     let o = c.self.invariant.1 in
     let p = c.in-Some.progress.progress in
     let names = ap (λ (b : Book). length b.table.names) c.self.view_is in
-    let there = found c.self.inside.works.items c.args.t c.index.result.now c.in-Some.progress (omega (arith, c.requires, names, o.works)) c.index.ensures c.in-Some.is in
+    let there = found c.self.inside.in_progress.items c.args.t c.index.result.now c.in-Some.progress (omega (arith, c.requires, names, o.in_progress)) c.index.ensures c.in-Some.is in
     omega (arith, c.running.ensures, count_by-most (is_running p) (task_count p), o.most c.args.t c.in-Some.progress there)

@@ -35,10 +35,10 @@ returns c b d orderly counts settles ticket was wait =
     let new = c.args.ledger.now in
     let g = ready_under (seen_of new) in
     let table = settles.table ∙ ap (λ (k : ℕ). settled b.table k outcome.Done) ticket in
-    let works = settles.works ∙ ap (λ (k : ℕ). set b.works k None) ticket in
+    let in_progress = settles.in_progress ∙ ap (λ (k : ℕ). set b.in_progress k None) ticket in
     let all : take c.loop-u.u-index waiters ≡ waiters = ap (λ (k : ℕ). take k waiters) (let e : c.loop-u.u-index ≡ length waiters = omega arith in e) ∙ take-length waiters in
     let anew = subst (λ (l : List ℕ). AreAnew g c.self.inside.ready c.loop-u.self-inside.ready l) all now.anew in
     let middle : c.self.inside.ready ≡ set c.args.self.now.ready t (g t) = ap (λ (k : Tally). k.ready) c.self.view_is ∙ c.count.ensures.ready in
     counts-settled b new c.args.self.now (record { ready = c.loop-u.self-inside.ready; running = c.loop-u.self-inside.running }) t c.args.was c.self.inside.ready waiters
-    orderly c.requires.within counts table works was wait middle anew
+    orderly c.requires.within counts table in_progress was wait middle anew
     (λ le. now.running ∙ ap (λ (k : Tally). k.running) c.self.view_is ∙ c.count.ensures.running le)

@@ -15,8 +15,8 @@ unreachable-requires c =
     let last = c.unwrap-last.result in
     let last-is : last ≡ place_at ps (i.places.len - 1) = last_is ps i.places.len c.pop.result last (c.pop.ensures.value no_place (omega (arith, sizes.0, sizes.1, len))) c.unwrap-last.ensures in
     let done = subst (λ (u : ProgressView). remaining_tasks u.progress ≡ 0) (sym c.self.view_is) c.requires.done in
-    let plain = subst (λ (u : ProgressView). is_sum (get_or u.progress.plan (length u.progress.plan - 1) nothing_planned).step ≡ false) (sym c.self.view_is) c.requires.plane in
-    let one : form (place_at ps (i.places.len - 1)) ≡ 1 = ap (λ (n : ℕ). form (place_at ps (n - 1))) len ∙ last_form i.plan i.input i.grid i.ready ps c.self.invariant.0 c.self.invariant.2 done plain in
+    let unsummed = subst (λ (u : ProgressView). is_sum (get_or u.progress.plan (length u.progress.plan - 1) nothing_planned).step ≡ false) (sym c.self.view_is) c.requires.plane in
+    let one : form (place_at ps (i.places.len - 1)) ≡ 1 = ap (λ (n : ℕ). form (place_at ps (n - 1))) len ∙ last_form i.plan i.input i.grid i.ready ps c.self.invariant.0 c.self.invariant.2 done unsummed in
     not_open (place_at ps (i.places.len - 1)) last last-is one c.in_default.not-Plane
 
 pub returns : goal.returns

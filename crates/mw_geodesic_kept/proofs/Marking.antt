@@ -1,0 +1,83 @@
+-- Numbers that are marked one after another.
+use Rattle.std.proofs.Common.{◌≡◌, ◌≢◌, ℕ, ◌+◌, ◌<◌, Bool, true, false, List, length, replicate, get_or, set, ap, sym, subst, arith, ◌∙◌, inl, inr}
+use Rattle.std.specs.Prelude.{nat_le}
+use Rattle.std.proofs.lemmas.Bool.{cases_lt, cases_eq, false≢true}
+use Rattle.std.proofs.lemmas.List.{get_or-set_same, get_or-set_other}
+use Rattle.mw_model.proofs.mw_facts.Elements.{get_or-replicate_same}
+use Rattle.mw_geodesic_runs.specs.declared.runs.Run.{Run}
+use Rattle.mw_geodesic_runs.specs.declared.regions.Region.{Region}
+use Rattle.mw_geodesic_runs.specs.Runs.{run_numbered}
+use Rattle.mw_geodesic_runs.specs.Gathering.{no_region}
+use Rattle.mw_geodesic_kept.specs.Keeping.{mark_of, HasAsked, AreMarked, AreMarkedLarge}
+
+pub none_marked : (count : ℕ) (marks : List Bool) → marks ≡ replicate count false → (k : ℕ) → mark_of marks k ≡ false
+none_marked count marks is k = ap (λ (t : List Bool). mark_of t k) is ∙ get_or-replicate_same count k false
+
+pub marked_none : (Asked : Run → Type 0) (runs : List Run) (numbers : List ℕ) (marks : List Bool) → ((k : ℕ) → mark_of marks k ≡ false) → AreMarked Asked runs numbers 0 marks
+marked_none Asked runs numbers marks none = record {
+  back = λ k is. absurd (false≢true (sym (none k) ∙ is));
+  on = λ i lt asked. absurd (omega arith);
+}
+
+more : (Asked : Run → Type 0) (runs : List Run) (numbers : List ℕ) (n k : ℕ) → HasAsked Asked runs numbers n k → HasAsked Asked runs numbers (n + 1) k
+more Asked runs numbers n k was = let before = was.before in record { at = was.at; before = omega arith; number = was.number; asked = was.asked }
+
+pub marked_on : (Asked : Run → Type 0) (runs : List Run) (numbers : List ℕ) (marks marks' : List Bool) (n k : ℕ) → k ≡ get_or numbers n 0 → k < length marks → marks' ≡ set marks k true → Asked (run_numbered runs n)
+    → AreMarked Asked runs numbers n marks → AreMarked Asked runs numbers (n + 1) marks'
+marked_on Asked runs numbers marks marks' n k number within is asked was =
+    let here : mark_of marks' k ≡ true = ap (λ (t : List Bool). mark_of t k) is ∙ get_or-set_same marks k true false within in
+    let there : (j : ℕ) → j ≢ k → mark_of marks' j ≡ mark_of marks j = λ j ne. ap (λ (t : List Bool). mark_of t j) is ∙ get_or-set_other marks k j true false ne in
+    record {
+      back = λ j mark. elim (cases_eq j k) [
+        | inl same ↦ record { at = n; before = omega arith; number = sym number ∙ sym same; asked = asked }
+        | inr ne ↦ more Asked runs numbers n j (was.back j (sym (there j ne) ∙ mark))
+      ];
+      on = λ i lt asked'. elim (cases_eq (get_or numbers i 0) k) [
+        | inl same ↦ ap (mark_of marks') same ∙ here
+        | inr ne ↦ elim (cases_lt i n) [
+          | inl before ↦ there (get_or numbers i 0) ne ∙ was.on i before asked'
+          | inr from ↦
+              let last : i ≡ n = omega arith in
+              absurd (ne (ap (λ (t : ℕ). get_or numbers t 0) last ∙ sym number))
+        ]
+      ];
+    }
+
+pub marked_past : (Asked : Run → Type 0) (runs : List Run) (numbers : List ℕ) (marks : List Bool) (n : ℕ) → (Asked (run_numbered runs n) → ⊥) → AreMarked Asked runs numbers n marks → AreMarked Asked runs numbers (n + 1) marks
+marked_past Asked runs numbers marks n not was = record {
+  back = λ k mark. more Asked runs numbers n k (was.back k mark);
+  on = λ i lt asked. elim (cases_lt i n) [
+    | inl before ↦ was.on i before asked
+    | inr from ↦
+        let last : i ≡ n = omega arith in
+        absurd (not (subst (λ (t : ℕ). Asked (run_numbered runs t)) last asked))
+  ];
+}
+
+-- the same marks, where what is asked for is the same of each run
+pub marked_as : (Asked Asked' : Run → Type 0) (runs : List Run) (numbers : List ℕ) (n : ℕ) (marks : List Bool) → ((i : ℕ) → i < n → Asked (run_numbered runs i) → Asked' (run_numbered runs i))
+    → ((i : ℕ) → i < n → Asked' (run_numbered runs i) → Asked (run_numbered runs i)) → AreMarked Asked runs numbers n marks → AreMarked Asked' runs numbers n marks
+marked_as Asked Asked' runs numbers n marks to from was = record {
+  back = λ k mark. let asked = was.back k mark in record { at = asked.at; before = asked.before; number = asked.number; asked = to asked.at asked.before asked.asked };
+  on = λ i lt asked. was.on i lt (from i lt asked);
+}
+
+-- ---- by areas
+
+pub large_none : (least : ℕ) (regions : List Region) (marks : List Bool) → AreMarkedLarge least regions 0 marks
+large_none least regions marks k lt = absurd (omega arith)
+
+pub large_on : (least : ℕ) (regions : List Region) (marks marks' : List Bool) (n : ℕ) (mark : Bool) → n + 1 < length marks → marks' ≡ set marks (n + 1) mark → mark ≡ nat_le least (get_or regions n no_region).area
+    → AreMarkedLarge least regions n marks → AreMarkedLarge least regions (n + 1) marks'
+large_on least regions marks marks' n mark within is mark_is was k lt = elim (cases_eq k n) [
+  | inl same ↦
+      let at : k + 1 ≡ n + 1 = omega arith in
+      ap (λ (t : List Bool). mark_of t (k + 1)) is
+      ∙ ap (mark_of (set marks (n + 1) mark)) at
+      ∙ get_or-set_same marks (n + 1) mark false within
+      ∙ mark_is
+      ∙ ap (λ (t : ℕ). nat_le least (get_or regions t no_region).area) (sym same)
+  | inr ne ↦
+      let other : k + 1 ≢ n + 1 = λ e. ne (omega arith) in
+      ap (λ (t : List Bool). mark_of t (k + 1)) is ∙ get_or-set_other marks (n + 1) (k + 1) mark false other ∙ was k (omega arith)
+]

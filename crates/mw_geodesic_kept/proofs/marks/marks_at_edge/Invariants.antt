@@ -1,0 +1,7 @@
+use Rattle.std.proofs.Common.{◌≡◌, ◌+◌}
+use Rattle.std.specs.Prelude.{vec_len}
+use Rattle.mw_geodesic_kept.specs.Keeping.{IsAtEdge, AreMarked}
+use Rattle.mw_geodesic_kept.proofs.marks.marks_at_edge.Given as goal
+
+abbrev pub invariant-loop-i : goal.invariant-loop-i
+invariant-loop-i l = record { size : vec_len l.marks ≡ l.count + 1; marked : AreMarked (IsAtEdge l.width l.height) l.runs l.numbers l.i l.marks.items }

@@ -1,0 +1,96 @@
+//! Marks of the numbers of components, by what holds of any of their runs.
+
+ghost use Rattle.std.specs.Prelude.{◌≡◌, ℕ, ◌+◌, ◌<◌, ◌≤◌, length, true, false, vec_len, IfOk};
+ghost use Rattle.mw_pixel.specs.Images.{set_of};
+ghost use Rattle.mw_geodesic_kept.specs.Keeping.{mark_of, LieInFrame, HasPixelOf, IsAtEdge, AreMarked};
+
+use mw_geodesic_runs::found::{Run, next_place};
+use mw_model::NoMemory;
+use mw_pixel::words::stride;
+use mw_pixel::{Bit, Plane};
+use std::alloc::Global;
+
+/// So many numbers without a mark.
+pub(crate) fn unmarked(alloc: Global, count: usize) -> Result<Vec<bool>, NoMemory>
+    ensures size { IfOk result (λ r. vec_len r ≡ count) }
+    ensures none { IfOk result (λ r. (k : ℕ) → mark_of r.items k ≡ false) }
+{
+    let marks = vec![in alloc; false; count]?;
+    Ok(marks)
+}
+
+/// Whether a pixel of the marker stands in the run.
+#[inline(always)]
+fn meets(marker: &Plane<Bit>, run: Run) -> bool
+    requires some { run.first < run.end }
+    requires across { run.end ≤ marker.now.width }
+    requires down { run.row < marker.now.height }
+    ensures yes { result ≡ true → HasPixelOf (set_of marker.now) run }
+    ensures no { result ≡ false → HasPixelOf (set_of marker.now) run → ⊥ }
+{
+    let row = marker.words().row(run.row);
+    let words = &row[..stride(u32::from(run.end))];
+    next_place(words, run.first as usize, true) < run.end as usize
+}
+
+/// Whether the run has a place at the border of the frame.
+#[inline(always)]
+fn at_edge(width: u32, height: u32, run: Run) -> bool
+    requires { run.row < height }
+    ensures yes { result ≡ true → IsAtEdge width height run }
+    ensures no { result ≡ false → IsAtEdge width height run → ⊥ }
+{
+    if run.row == 0 {
+        return true;
+    }
+    if run.row + 1 == height {
+        return true;
+    }
+    if run.first == 0 {
+        return true;
+    }
+    u32::from(run.end) == width
+}
+
+/// Marks the numbers of the components that have a pixel of the marker.
+pub(crate) fn marks_met(
+    alloc: Global,
+    runs: &[Run],
+    numbers: &[u32],
+    count: u32,
+    marker: &Plane<Bit>,
+) -> Result<Vec<bool>, NoMemory>
+    requires { LieInFrame marker.now.width marker.now.height (count + 1) runs.now numbers.now }
+    ensures size { IfOk result (λ r. vec_len r ≡ count + 1) }
+    ensures marked { IfOk result (λ r. AreMarked (HasPixelOf (set_of marker.now)) runs.now numbers.now (length runs.now) r.items) }
+{
+    let mut marks = unmarked(alloc, count as usize + 1)?;
+    for i in 0..runs.len() {
+        if meets(marker, runs[i]) {
+            marks[numbers[i] as usize] = true;
+        }
+    }
+    Ok(marks)
+}
+
+/// Marks the numbers of the components that have a place at the border of the frame.
+pub(crate) fn marks_at_edge(
+    alloc: Global,
+    runs: &[Run],
+    numbers: &[u32],
+    count: u32,
+    width: u32,
+    height: u32,
+) -> Result<Vec<bool>, NoMemory>
+    requires { LieInFrame width height (count + 1) runs.now numbers.now }
+    ensures size { IfOk result (λ r. vec_len r ≡ count + 1) }
+    ensures marked { IfOk result (λ r. AreMarked (IsAtEdge width height) runs.now numbers.now (length runs.now) r.items) }
+{
+    let mut marks = unmarked(alloc, count as usize + 1)?;
+    for i in 0..runs.len() {
+        if at_edge(width, height, runs[i]) {
+            marks[numbers[i] as usize] = true;
+        }
+    }
+    Ok(marks)
+}

@@ -1,0 +1,8 @@
+use Rattle.mw_geodesic_levels.specs.Levels.{level_numbered, cost, IsRaised}
+use Rattle.mw_geodesic_levels.proofs.flood.flood.Given as goal
+
+abbrev pub invariant-loop-q : goal.invariant-loop-q
+invariant-loop-q g l = IsRaised l.frame (level_numbered g.P.Pixel.level l.mask) (level_numbered g.P.Pixel.level l.initial.samples) (level_numbered g.P.Pixel.level l.samples)
+
+abbrev pub decreases-loop-q : goal.decreases-loop-q
+decreases-loop-q g l = cost l.frame (level_numbered g.P.Pixel.level l.mask) (level_numbered g.P.Pixel.level l.samples) l.queue

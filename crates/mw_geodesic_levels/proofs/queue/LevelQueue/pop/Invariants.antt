@@ -1,0 +1,9 @@
+use Rattle.std.proofs.Common.{◌≤◌, vec_len}
+use Rattle.mw_geodesic_levels.specs.Waiting.{waiting}
+use Rattle.mw_geodesic_levels.proofs.queue.LevelQueue.pop.Given as goal
+
+abbrev pub invariant-loop-self : goal.invariant-loop-self
+invariant-loop-self l = record { within : l.self-inside.top ≤ vec_len l.self-inside.lists; no_more : waiting l.self-inside.lists.items ≤ l.fn.self }
+
+abbrev pub decreases-loop-self : goal.decreases-loop-self
+decreases-loop-self l = l.self-inside.top

@@ -1,0 +1,27 @@
+//! Reconstruction by dilation of grey images, after Vincent (Morphological Grayscale Reconstruction in Image Analysis,
+//! 1993): two sweeps over the rows, and then a queue, here one by levels, from which the highest are taken first, so that
+//! few places are raised more than once. A last look finds whether any place is left that can be raised.
+//!
+//! Every step raises a sample at most to what one near it has, within the mask. That alone is proved of the sweeps and the
+//! queue: the image stays under each image that cannot be raised, and so under the reconstruction. What the last look says
+//! makes it equal, so the order of the sweeps, and which places wait, are free.
+//!
+//! ```text
+//! let rebuilt = reconstruction(alloc, &marker, &mask, Neighbours::Eight)?;
+//! ```
+#![tactic(auto)]
+
+mod flood;
+mod frame;
+mod last_look;
+mod near;
+mod neighbours;
+mod queue;
+mod rebuilding;
+mod samples;
+mod sweeps;
+mod waiting;
+
+pub use mw_geodesic::Neighbours;
+pub use mw_model::NoMemory;
+pub use rebuilding::reconstruction;

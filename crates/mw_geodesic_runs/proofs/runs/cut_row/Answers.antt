@@ -1,0 +1,47 @@
+use Rattle.std.proofs.Common.{◌≡◌, ◌∙◌, ◌*◌, ◌≤◌, List, length, refl, sym, subst, arith}
+use Rattle.mw_pixel.specs.Images.{set_of}
+use Rattle.mw_geodesic_runs.specs.declared.runs.Run.{Run}
+use Rattle.mw_geodesic_runs.proofs.Cuts.{HoldRow, Cutting, NextRun, next_run, cutting_begins, cutting_on, row_done, room_left}
+use Rattle.mw_geodesic_runs.proofs.runs.cut_row.Goals as goal
+
+pub cuts-init : goal.cuts-init
+cuts-init c =
+    let f = set_of c.args.set.now in
+    let words = c.row-words.result.now in
+    let row : HoldRow f c.args.y words = record { samples = c.row-words.ensures.samples; clean = c.row-words.ensures.clean; size = omega (arith, c.row-words.ensures.length) } in
+    record {
+      cutting = cutting_begins f words c.next_place-at.result c.args.y c.args.runs.now.items row c.next_place-at.ensures.within c.next_place-at.ensures.none c.next_place-at.ensures.found c.requires.above;
+      room = c.requires.room;
+    }
+
+pub push_reserved-requires : goal.push_reserved-requires
+push_reserved-requires c =
+    let f = set_of c.args.set.now in
+    let words = c.row-words.result.now in
+    let row : HoldRow f c.args.y words = record { samples = c.row-words.ensures.samples; clean = c.row-words.ensures.clean; size = omega (arith, c.row-words.ensures.length) } in
+    let room = room_left f words c.cuts.at c.args.y c.cuts.runs.items row c.cuts-test.true c.requires.row c.cuts.invariant.cutting in
+    let all = c.cuts.invariant.room in
+    omega (arith, c.cuts.runs.ok.0)
+
+pub cuts-preserved : goal.cuts-preserved
+cuts-preserved c =
+    let f = set_of c.args.set.now in
+    let words = c.row-words.result.now in
+    let y = c.args.y in
+    let at = c.cuts.at in
+    let end = c.next_place-end.result in
+    let next = c.next_place-at-in-cuts.result in
+    let run : Run = record { row = y; first = at; end = end } in
+    let row : HoldRow f y words = record { samples = c.row-words.ensures.samples; clean = c.row-words.ensures.clean; size = omega (arith, c.row-words.ensures.length) } in
+    record {
+      cutting = subst (λ (t : List Run). Cutting f words next y t) (sym c.push_reserved.ensures.items)
+          (cutting_on f words at end next y c.cuts.runs.items run row refl refl refl c.cuts.invariant.cutting c.cuts-test.true c.next_place-end.ensures.from c.next_place-end.ensures.within c.next_place-end.ensures.none c.next_place-end.ensures.found
+          c.next_place-at-in-cuts.ensures.from c.next_place-at-in-cuts.ensures.within c.next_place-at-in-cuts.ensures.none c.next_place-at-in-cuts.ensures.found);
+      room = c.push_reserved.ensures.capacity ∙ c.cuts.invariant.room;
+    }
+
+pub returns-clause-runs : goal.returns-clause-runs
+returns-clause-runs c =
+    let f = set_of c.args.set.now in
+    let size : f.width ≤ 64 * length c.row-words.result.now = omega (arith, c.row-words.ensures.length) in
+    row_done f c.cuts.at c.args.y c.cuts.runs.items (omega arith) c.cuts.invariant.cutting.before

@@ -1,0 +1,104 @@
+//! The runs of a set, row by row.
+
+ghost use Rattle.std.specs.Prelude.{◌≡◌, ℕ, ◌+◌, ◌-◌, ◌*◌, ◌<◌, ◌≤◌, ◌^◌, length, vec_len, vec_capacity, IfOk};
+ghost use Rattle.std.specs.Int.{bit_at};
+ghost use Rattle.mw_pixel.specs.Images.{set_of};
+ghost use Rattle.mw_geodesic_runs.specs.Runs.{RunsBefore, begin_at, run_count, tally};
+ghost use Rattle.mw_pixel.specs.mw_pixel_words.Packed.{bit_of};
+
+use crate::scanning::next_place;
+use mw_model::NoMemory;
+use mw_pixel::Words;
+use std::alloc::Global;
+
+/// Pixels of a set that stand side by side in a row, as many as do: those from a first column up to an end, which is not
+/// of the run.
+#[derive(Clone, Copy, Debug)]
+pub struct Run {
+    pub row: u32,
+    pub first: u16,
+    pub end: u16,
+}
+
+/// Adds the runs of a row. There is room for all of the set.
+fn cut_row(set: &Words, y: u32, runs: &mut Vec<Run>)
+    requires narrow { set.now.width < 2 ^ 16 }
+    requires row { y < set.now.height }
+    requires above { RunsBefore (set_of set.now) 0 y runs.old.items }
+    requires room { vec_capacity runs.old ≡ run_count (set_of set.now) }
+    ensures runs { RunsBefore (set_of set.now) 0 (y + 1) runs.new.items }
+    ensures room { vec_capacity runs.new ≡ run_count (set_of set.now) }
+{
+    let words = set.row(y);
+    let limit = 64 * words.len();
+    let mut at = next_place(words, 0, true);
+    'cuts: while at < limit {
+        let end = next_place(words, at, false);
+        runs.push_reserved(Run {
+            row: y,
+            first: at as u16,
+            end: end as u16,
+        });
+        at = next_place(words, end, true);
+    }
+}
+
+/// The bits at which runs begin, in a word of a row behind a word that ends with this bit.
+#[inline(always)]
+fn begin_bits(word: u64, last: u64) -> u64
+    requires { last < 2 }
+    ensures fits { result < 2 ^ 64 }
+    ensures first { bit_at result 0 ≡ bit_at word 0 - last }
+    ensures others { (i : ℕ) → i + 1 < 64 → bit_at result (i + 1) ≡ bit_at word (i + 1) - bit_at word i }
+{
+    word & !((word << 1) | last)
+}
+
+/// The last bit of a word.
+#[inline(always)]
+fn last_bit(word: u64) -> u64
+    ensures { result ≡ bit_at word 63 }
+{
+    word >> 63
+}
+
+/// How many runs begin in the words of a row.
+fn count_starts(words: &[u64]) -> usize
+    requires { length words.now < 2 ^ 32 }
+    ensures count { result ≡ tally (begin_at (bit_of words.now)) (64 * length words.now) }
+    ensures few { result ≤ 64 * length words.now }
+{
+    let mut count = 0;
+    let mut last = 0;
+    for k in 0..words.len() {
+        let word = words[k];
+        count += begin_bits(word, last).count_ones() as usize;
+        last = last_bit(word);
+    }
+    count
+}
+
+/// How many runs a set has.
+fn count_runs(set: &Words) -> usize
+    requires { set.now.width < 2 ^ 16 }
+    ensures { result ≡ run_count (set_of set.now) }
+{
+    let mut count = 0;
+    for y in 0..set.height() {
+        count += count_starts(set.row(y));
+    }
+    count
+}
+
+/// The runs of a set, by rows from the top, in each row from the left, with memory for no more.
+pub(crate) fn runs_of(alloc: Global, set: &Words) -> Result<Vec<Run>, NoMemory>
+    requires { set.now.width < 2 ^ 16 }
+    ensures runs { IfOk result (λ r. RunsBefore (set_of set.now) 0 set.now.height r.items) }
+    ensures room { IfOk result (λ r. vec_capacity r ≡ vec_len r) }
+{
+    let mut runs = Vec::with_capacity(alloc, count_runs(set))?;
+    for y in 0..set.height() {
+        cut_row(set, y, &mut runs);
+    }
+    Ok(runs)
+}

@@ -1,0 +1,127 @@
+//! Reconstructions of grey images beside those of the slow program: of all masks of 3 x 3 pixels and two levels from each
+//! place, and of images without a pattern from what lies under their peaks.
+
+use crate::given::{WAYS, made};
+use mw_geodesic_levels::{Neighbours, reconstruction};
+use mw_model::{Kind, Offset};
+use mw_pixel::{Grey, Plane};
+use mw_reference::ReferenceImage;
+use std::alloc::Global;
+use std::process::Abort;
+use test_images::{has_levels, image, noise, plane_of};
+
+fn plane_in<P: Grey>(rt: &impl Abort, alloc: Global, image: &ReferenceImage) -> Plane<P> {
+    match plane_of::<P>(alloc, image) {
+        Ok(plane) => plane,
+        Err(_fault) => panic!(rt; "samples"),
+    }
+}
+
+/// The reconstruction by the slow program.
+fn slow(
+    rt: &impl Abort,
+    alloc: Global,
+    marker: &ReferenceImage,
+    mask: &ReferenceImage,
+    element: &[Offset],
+) -> ReferenceImage {
+    let sides = marker.width() == mask.width() && marker.height() == mask.height();
+    assert!(rt; sides && marker.kind() == mask.kind() && marker.maxval() == mask.maxval());
+    mw_geodesic::reconstruction(alloc, marker, mask, element).expect(rt, "memory")
+}
+
+/// Stops where the reconstruction is another than that of the slow program.
+fn is_rebuilt<P: Grey>(
+    rt: &impl Abort,
+    alloc: Global,
+    marker: &ReferenceImage,
+    mask: &ReferenceImage,
+    way: (Neighbours, &[Offset]),
+) {
+    let wanted = slow(rt, alloc, marker, mask, way.1);
+    let (f, g) = (
+        plane_in::<P>(rt, alloc, marker),
+        plane_in::<P>(rt, alloc, mask),
+    );
+    assert!(rt; f.width() == g.width() && f.height() == g.height());
+    let rebuilt = reconstruction::<P>(alloc, &f, &g, way.0)
+        .ok()
+        .expect(rt, "memory");
+    assert!(rt; has_levels(&rebuilt, wanted.samples()));
+}
+
+/// An image of nine levels.
+fn square(rt: &impl Abort, alloc: Global, levels: &[u16; 9]) -> ReferenceImage {
+    made(rt, image(alloc, Kind::Grey, 3, 3, 2, levels))
+}
+
+/// The image less so many levels, and nothing below 0.
+fn lowered(
+    rt: &impl Abort,
+    alloc: Global,
+    image_given: &ReferenceImage,
+    by: u16,
+) -> ReferenceImage {
+    let mut levels = Vec::new(alloc);
+    for level in image_given.samples() {
+        levels
+            .push(level.saturating_sub(by))
+            .ok()
+            .expect(rt, "memory");
+    }
+    let (width, height) = (image_given.width(), image_given.height());
+    made(
+        rt,
+        image(
+            alloc,
+            Kind::Grey,
+            width,
+            height,
+            image_given.maxval(),
+            &levels,
+        ),
+    )
+}
+
+#[test]
+fn all_masks_of_three_by_three(rt: HostRuntime) {
+    let alloc = rt.alloc();
+    for number in 0..512u16 {
+        let mut levels = [1u16; 9];
+        for (place, level) in levels.iter_mut().enumerate() {
+            *level = 1 + (number >> place & 1);
+        }
+        let mask = square(&rt, alloc, &levels);
+        for place in 0..9usize {
+            let mut levels = [0u16; 9];
+            levels[place] = 2;
+            let marker = square(&rt, alloc, &levels);
+            for way in WAYS {
+                is_rebuilt::<u8>(&rt, alloc, &marker, &mask, *way);
+            }
+        }
+    }
+}
+
+/// Stops where a reconstruction of an image without a pattern is another.
+fn noise_is_rebuilt<P: Grey>(
+    rt: &impl Abort,
+    alloc: Global,
+    sides: (u32, u32),
+    levels: (u16, u16),
+) {
+    let mask = made(rt, noise(alloc, Kind::Grey, sides.0, sides.1, levels.0));
+    let marker = lowered(rt, alloc, &mask, levels.1);
+    for way in WAYS {
+        is_rebuilt::<P>(rt, alloc, &marker, &mask, *way);
+    }
+}
+
+#[test]
+fn images_without_a_pattern(rt: HostRuntime) {
+    for sides in [(24, 24), (1, 24), (24, 1), (17, 5), (2, 2)] {
+        noise_is_rebuilt::<u8>(&rt, rt.alloc(), sides, (9, 3));
+        noise_is_rebuilt::<u8>(&rt, rt.alloc(), sides, (255, 90));
+        noise_is_rebuilt::<u16>(&rt, rt.alloc(), sides, (300, 40));
+    }
+}

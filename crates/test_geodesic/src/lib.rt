@@ -1,0 +1,20 @@
+//! Labels and regions of sets, and reconstructions of grey images: beside the slow programs, at full size, and after memory was refused. The contracts say what
+//! is made. That it is made wherever there is memory, no contract says.
+//!
+//! ```text
+//! rt test     // in this folder; then `make memory` refuses each allocation of the module `memory` in turn
+//! ```
+#![tactic(auto)]
+
+#[cfg(test)]
+mod beside;
+#[cfg(test)]
+mod full_size;
+#[cfg(test)]
+mod given;
+#[cfg(test)]
+mod grey;
+#[cfg(test)]
+mod kept;
+#[cfg(test)]
+mod memory;
