@@ -144,15 +144,14 @@ demo: toolchain python3
 	@python3 examples/demo.py proved
 
 memory: toolchain python3 compiler
-	@python3 -B checks/prove.py morphd test_memory test_core test_direct test_geodesic test_strips test_pool
+	@python3 -B checks/prove.py morphd test_kernels test_c test_core test_geodesic test_pool
 	@python3 -B checks/refused_memory.py $(MORPHD)
 	@python3 -B checks/fetch_memory.py $(MORPHD)
 	@python3 -B checks/set_memory.py $(MORPHD)
-	@python3 -B checks/refused_tests.py crates/test_memory/out/test_memory_tests
+	@python3 -B checks/refused_tests.py crates/test_kernels/out/test_kernels_tests
+	@python3 -B checks/refused_tests.py crates/test_c/out/test_c_tests
 	@python3 -B checks/refused_tests.py crates/test_core/out/test_core_tests
-	@python3 -B checks/refused_tests.py crates/test_direct/out/test_direct_tests
 	@python3 -B checks/refused_tests.py crates/test_geodesic/out/test_geodesic_tests
-	@python3 -B checks/refused_tests.py crates/test_strips/out/test_strips_tests
 	@python3 -B checks/refused_tests.py crates/test_pool/out/test_pool_tests
 	@python3 -B checks/passed.py $@ $(BEGUN)
 

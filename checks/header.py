@@ -14,7 +14,8 @@ import sys
 
 ROOT = pathlib.Path(__file__).resolve().parent.parent
 HEADER = "include/morphd.h"
-CRATES = re.compile(r"mw_c(_calls|_arrays)?")
+GEODESIC = "crates/mw_c_geodesic/specs"
+CRATES = re.compile(r"mw_c(_calls|_arrays|_geodesic)?")
 C_FUNCTION = re.compile(r"^(\w+) (morphd_\w+)\(([^;]*)\);", re.MULTILINE)
 OWN_FUNCTION = re.compile(r'^#\[unsafe\(no_mangle\)\]\npub extern "C" fn (\w+)\(([^)]*)\) -> (\w+)$', re.MULTILINE)
 CONSTANT = re.compile(r"^ +MORPHD_(\w+) = (\d+),?", re.MULTILINE)
@@ -22,6 +23,11 @@ CONSTANT = re.compile(r"^ +MORPHD_(\w+) = (\d+),?", re.MULTILINE)
 COUNTS = {"samples": "count", "pixels": "count"}
 OPERATORS = {"erosion": "ERODE", "dilation": "DILATE", "opening": "OPEN", "closing": "CLOSE", "gradient": "GRADIENT",
              "white_top_hat": "WHITE_TOP_HAT", "black_top_hat": "BLACK_TOP_HAT", "rank": "RANK"}
+KINDS = {"regional_maxima": "MAXIMA", "regional_minima": "MINIMA"}
+METHODS = {"reconstruction": "BY_DILATION", "reconstruction_by_erosion": "BY_EROSION"}
+METRICS = {"CityBlock": "CITY_BLOCK", "Chessboard": "CHESSBOARD", "SquaredEuclid": "SQUARED_EUCLID"}
+# The refusals that no command is answered, by their names in Told.antt.
+REFUSALS = {"Frame": "FRAME", "Levels": "LEVELS", "OneWay": "ONE_WAY"}
 # A set is never refused for not being one.
 NEVER_ANSWERED = {"Binary"}
 
@@ -57,8 +63,11 @@ def c_type(own):
 def c_parameters(name, own):
     """The parameters of C in the place of one of a proved function."""
     array = re.fullmatch(r"&(mut )?\[(\w+)\]", own)
+    number = re.fullmatch(r"&mut (\w+)", own)
     if own == "Global":
         return []
+    if number and c_type(number[1]):
+        return [f"{c_type(number[1])} *{name}"]
     if array and c_type(array[2]):
         const = "" if array[1] else "const "
         return [f"{const}{c_type(array[2])} *{name}", f"size_t {COUNTS.get(name, name + '_count')}"]
@@ -102,17 +111,44 @@ def operations(sources):
     return {OPERATORS.get(name, name): int(number) for number, name in [*rows, *((len(rows), it) for it in last)]}
 
 
+def methods(sources):
+    """The number of each method of reconstruction, by the definition of what it makes."""
+    body = "".join(re.findall(r"^rebuilt_by method e mask marker = (.*)$", sources.get(f"{GEODESIC}/Methods.antt", ""), re.MULTILINE))
+    rows = re.findall(r"method == (\d+) then (\w+) ", body)
+    last = re.findall(r"else (\w+) ", body)
+    return {METHODS.get(name, name): int(number) for number, name in [*rows, *((len(rows), it) for it in last)]}
+
+
+def metrics(sources):
+    """The number of each metric."""
+    body = "".join(re.findall(r"^metric_of number = (.*)$", sources.get(f"{GEODESIC}/DistanceCalls.antt", ""), re.MULTILINE))
+    rows = re.findall(r"number == (\d+) then metric\.(\w+) ", body)
+    last = re.findall(r"else metric\.(\w+)$", body)
+    return {METRICS.get(name, name): int(number) for number, name in [*rows, *((len(rows), it) for it in last)]}
+
+
+def kinds(sources):
+    """The number of each kind of extrema, by the definition of what it makes."""
+    text = sources.get(f"{GEODESIC}/LevelsChanges.antt", "")
+    body = "".join(re.findall(r"^regional_extrema kind e f = (.*)$", text, re.MULTILINE))
+    found = re.findall(r"kind == (\d+) then (\w+) ", body)
+    last = re.findall(r"else (\w+) ", body)
+    return {KINDS.get(name, name): int(number) for number, name in [*found, *((len(found), it) for it in last)]}
+
+
 def answers(sources):
     """The number of each refusal that the definitions name, and 0."""
     rows = re.findall(r'^number_and_word code\.(\w+) = \((\d+), codes "(\w+)"\)', sources["crates/mw_model/specs/Codes.antt"], re.MULTILINE)
     specs = "".join(text for path, text in sources.items() if path.endswith(".antt") and "/mw_model/" not in path)
     named = set(re.findall(r"\bcode\.(\w+)", specs)) - NEVER_ANSWERED
-    return {"DONE": 0, **{word: int(number) for name, number, word in rows if name in named}}
+    told = re.findall(r"^number_told refusal\.(\w+) = pos (\d+)$", sources.get(f"{GEODESIC}/Told.antt", ""), re.MULTILINE)
+    more = {REFUSALS.get(name, name): int(number) for name, number in told}
+    return {"DONE": 0, **{word: int(number) for name, number, word in rows if name in named}, **more}
 
 
 def faults_of_numbers(sources):
     header = sources[HEADER]
-    wanted = {**operations(sources), **answers(sources)}
+    wanted = {**operations(sources), **methods(sources), **metrics(sources), **kinds(sources), **answers(sources)}
     found = {name: int(number) for name, number in CONSTANT.findall(header)}
     for name in sorted({*wanted, *found}):
         if wanted.get(name) != found.get(name):
@@ -153,6 +189,13 @@ SPOILED = [
     ("proved", 'pub extern "C" fn morphd_skeleton(', "fn morphd_skeleton(", "morphd_skeleton is in the header alone"),
     ("proved", "    levels: u32,\n", "    levels: usize,\n", "which C does not have"),
     ("proved", "operation == 2 then opening", "operation == 2 then closing", "MORPHD_OPEN"),
+    ("header", "uint32_t *components);", "uint32_t components);", "components"),
+    ("header", "MORPHD_MINIMA = 1", "MORPHD_MINIMA = 0", "MORPHD_MINIMA"),
+    ("header", "MORPHD_BY_EROSION = 1", "MORPHD_BY_EROSION = 0", "MORPHD_BY_EROSION"),
+    ("header", "MORPHD_CHESSBOARD = 1", "MORPHD_CHESSBOARD = 2", "MORPHD_CHESSBOARD"),
+    ("header", "MORPHD_ONE_WAY = 55", "MORPHD_ONE_WAY = 53", "MORPHD_ONE_WAY"),
+    ("proved", "    components: &mut u32,\n", "    components: u32,\n", "components"),
+    ("proved", "number_told refusal.Frame = pos 53", "number_told refusal.Frame = pos 52", "MORPHD_FRAME"),
     ("proved", '(45, codes "NO_ORIGIN")', '(44, codes "NO_ORIGIN")', "MORPHD_NO_ORIGIN"),
 ]
 

@@ -17,6 +17,7 @@ import sys
 import tempfile
 import threading
 
+import grain_calls
 import large_calls
 import library_calls as calls
 import library_links
@@ -61,6 +62,22 @@ def one_by_one(library, chance):
     missing = NUMBERS - set(seen)
     if missing or set(seen) - NUMBERS:
         sys.exit("answers that never came: %s; that should not have come: %s" % (sorted(missing), sorted(set(seen) - NUMBERS)))
+    return seen
+
+
+def grains_one_by_one(library, chance):
+    """Random calls of what grains are measured by: how often each number was answered."""
+    writer, seen = grain_calls.Writer(chance), {}
+    for number in range(CALLS):
+        call = writer.call()
+        told = grain_calls.made(library, call)
+        if grain_calls.differs(told, call):
+            sys.exit("DIFFERS: %r\nmade %r\nwanted %r" % (call, told, grain_calls.wanted(call)))
+        if number < 100 and not all(grain_calls.differs(it, call) for it in grain_calls.spoiled(told)):
+            sys.exit("a spoiled result of %r was not noticed" % (call,))
+        seen[told[0]] = seen.get(told[0], 0) + 1
+    if set(seen) != grain_calls.NUMBERS:
+        sys.exit("answers that never came, or should not have come: %s" % sorted(grain_calls.NUMBERS ^ set(seen)))
     return seen
 
 
@@ -198,6 +215,12 @@ def main():
     seen = one_by_one(library, chance)
     told = ", ".join("%d: %d" % it for it in sorted(seen.items()))
     print("%d random calls beside the reference model; answers: %s" % (CALLS, told))
+    told = ", ".join("%d: %d" % it for it in sorted(grains_one_by_one(library, chance).items()))
+    print("%d random calls on grains beside the reference model; answers: %s" % (CALLS, told))
+    full = grain_calls.full_size(library)
+    if isinstance(full, str):
+        sys.exit("DIFFERS: " + full)
+    print("%d calls on grains on pictures up to the limit" % full)
     side_by_side(library, chance)
     print("four threads at once make the same")
     print("%d calls for rows beside the whole result" % rows_beside_whole(library, chance))

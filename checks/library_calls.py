@@ -12,6 +12,8 @@ ROOT = pathlib.Path(__file__).resolve().parent.parent
 TYPES = {"int32_t": ctypes.c_int32, "uint32_t": ctypes.c_uint32, "uint8_t": ctypes.c_uint8, "uint16_t": ctypes.c_uint16,
          "uint64_t": ctypes.c_uint64, "size_t": ctypes.c_size_t}
 PROTOTYPE = re.compile(r"^(u?int32_t) (morphd_\w+)\(([^;]*)\);", re.MULTILINE)
+# The calls that checks/grain_calls.py makes.
+OF_GRAINS = re.compile(r"morphd_(reconstruct|fill|clear_border|extrema|label|regions|area|distance)_")
 FLAT = ("ERODE", "DILATE", "OPEN", "CLOSE", "GRADIENT", "WTOPHAT", "BTOPHAT", "RANK")
 # The numbers of those of one step, of whose results rows are made alone.
 OF_ONE_STEP = (0, 1, 4, 7)
@@ -193,7 +195,7 @@ class Writer:
     """Writes random calls; one in `odd` has a fault or more."""
 
     def __init__(self, chance, odd=4):
-        self.chance, self.odd, self.names = chance, odd, sorted(it for it in prototypes() if it != "morphd_version")
+        self.chance, self.odd, self.names = chance, odd, sorted(it for it in prototypes() if it != "morphd_version" and not OF_GRAINS.match(it))
 
     def image(self, kind, most, sides=None):
         width, height = sides or (self.chance.randint(1, 17), self.chance.randint(1, 13))

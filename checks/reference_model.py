@@ -468,3 +468,148 @@ def served(data):
             session.counts["refused by %d" % refused.code] += 1
             written.append(refusal(refused.code))
     return b"".join(written), 0, session.counts
+
+
+# ---- what hangs together
+
+
+def covered(f, offsets, x, y):
+    """The places that the element covers from one."""
+    return [(x + dx, y + dy) for dx, dy in offsets if 0 <= x + dx < f.width and 0 <= y + dy < f.height]
+
+
+def meet(f, g):
+    return pointwise(f, g, min)
+
+
+def union(f, g):
+    return pointwise(f, g, max)
+
+
+def geodesic_dilation(b, mask, f):
+    return meet(union(f, dilation(f, b)), mask)
+
+
+def geodesic_erosion(b, mask, f):
+    return union(meet(f, erosion(f, b)), mask)
+
+
+def flooded(b, mask, f, offer, is_gain):
+    """Each place takes what one that the element covers from it offers, as often as that is a gain. From there on no geodesic
+    dilation or erosion changes anything."""
+    samples, waiting = list(f.samples), [(x, y) for y in range(f.height) for x in range(f.width)]
+    while waiting:
+        u, v = waiting.pop()
+        for x, y in covered(f, turned(b), u, v):
+            at = y * f.width + x
+            offered = offer(samples[v * f.width + u], mask.samples[at])
+            if is_gain(offered, samples[at]):
+                samples[at] = offered
+                waiting.append((x, y))
+    return f._replace(samples=samples)
+
+
+def reconstruction(b, mask, marker):
+    return flooded(b, mask, meet(marker, mask), min, lambda s, t: s > t)
+
+
+def reconstruction_by_erosion(b, mask, marker):
+    return flooded(b, mask, union(marker, mask), max, lambda s, t: s < t)
+
+
+def border_over(value, f):
+    def sample_at(x, y):
+        at_border = x in (0, f.width - 1) or y in (0, f.height - 1)
+        return f.samples[y * f.width + x] if at_border else value
+    return redrawn(f, sample_at)
+
+
+def holes_filled(b, f):
+    return reconstruction_by_erosion(b, f, border_over(f.maxval, f))
+
+
+def border_cleared(b, f):
+    return minus(f, reconstruction(b, f, border_over(0, f)))
+
+
+def h_maxima(b, h, f):
+    return reconstruction(b, f, f._replace(samples=[max(s - h, 0) for s in f.samples]))
+
+
+def h_minima(b, h, f):
+    return reconstruction_by_erosion(b, f, f._replace(samples=[min(s + h, f.maxval) for s in f.samples]))
+
+
+def regional_maxima(b, f):
+    return set_where(minus(f, h_maxima(b, 1, f)), lambda s: s >= 1)
+
+
+def regional_minima(b, f):
+    return set_where(minus(h_minima(b, 1, f), f), lambda s: s >= 1)
+
+
+def component(b, f, x, y):
+    """The places of the set that hang together with one of it, by rows from the top."""
+    found, waiting = {(x, y)}, [(x, y)]
+    while waiting:
+        for u, v in covered(f, b, *waiting.pop()):
+            if f.samples[v * f.width + u] and (u, v) not in found:
+                found.add((u, v))
+                waiting.append((u, v))
+    return sorted(found, key=lambda place: place[::-1])
+
+
+def components(b, f):
+    """The components of a set by a symmetric element, in the order of their first places."""
+    found, met = [], set()
+    for y in range(f.height):
+        for x in range(f.width):
+            if f.samples[y * f.width + x] and (x, y) not in met:
+                found.append(component(b, f, x, y))
+                met.update(found[-1])
+    return found
+
+
+def labelling(b, f):
+    """The labels by rows, and how many components there are."""
+    parts, labels = components(b, f), [0] * (f.width * f.height)
+    for label, places in enumerate(parts, 1):
+        for x, y in places:
+            labels[y * f.width + x] = label
+    return labels, len(parts)
+
+
+def region(places):
+    """The first place of a component, its area, and its box with both ends."""
+    columns, rows = zip(*places)
+    return [*places[0], len(places), min(columns), min(rows), max(columns), max(rows)]
+
+
+def large_components(b, least, f):
+    kept = {place for places in components(b, f) if len(places) >= least for place in places}
+    return redrawn(f, lambda x, y: int((x, y) in kept))
+
+
+CROSS = [(0, -1), (-1, 0), (0, 0), (1, 0), (0, 1)]
+SQUARE = [(dx, dy) for dy in (-1, 0, 1) for dx in (-1, 0, 1)]
+
+
+def distance(b, top, f):
+    """How many of the erosions from none on hold each place; where one changes nothing, all behind it do the same."""
+    counts, eroded = [0] * len(f.samples), f
+    for n in range(top):
+        counts = [count + s for count, s in zip(counts, eroded.samples)]
+        before, eroded = eroded, erosion(eroded, b)
+        if eroded == before:
+            counts = [top if s else count for count, s in zip(counts, eroded.samples)]
+            break
+    return counts
+
+
+def squared_distance(top, f):
+    outside = [(x, y) for y in range(f.height) for x in range(f.width) if not f.samples[y * f.width + x]]
+    return [min([top, *((x - u) ** 2 + (y - v) ** 2 for u, v in outside)]) for y in range(f.height) for x in range(f.width)]
+
+
+def is_symmetric(offsets):
+    return set(offsets) == set(turned(offsets))

@@ -2,7 +2,7 @@
 """Runs tests that make each refused call once more, with each of their allocations refused in turn: each has to pass,
 whichever allocation it is. One that does not end is told as such.
 
-    python3 checks/refused_tests.py crates/test_memory/out/test_memory_tests [MODULE..]
+    python3 checks/refused_tests.py crates/test_kernels/out/test_kernels_tests [MODULE..]
 
 The program is what `rt test` leaves. Without modules it takes those that are made for it. The library refuse.so is built
 from refuse.c.
@@ -16,11 +16,10 @@ import tempfile
 from refused_memory import built_refuser, counted, refusing
 
 MODULES = {
-    "test_memory_tests": ["files", "makers", "medians", "results", "sharing"],
+    "test_kernels_tests": ["files", "makers", "medians", "results", "sharing"],
     "test_core_tests": ["calls", "events", "owners", "results"],
-    "test_direct_tests": ["memory"],
+    "test_c_tests": ["direct_memory", "strips_memory"],
     "test_geodesic_tests": ["memory"],
-    "test_strips_tests": ["memory"],
     "test_pool_tests": ["refused"],
 }
 SECONDS = 60

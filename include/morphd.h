@@ -20,15 +20,19 @@
  * S is the samples under the element at a place (x, y) of the image: those at (x + i - element_x, y + j - element_y) for each
  * column i and row j of the bitmap that is in the element. What lies outside the image is left out. The element turned round
  * has each of its pixels on the other side of its origin.
+ * Reconstructions, labels and what follows from them take an element that tells what hangs together: from a place it shows the
+ * places that it covers there. Whether it has the pixel at its origin changes nothing. Where it covers the four or the eight
+ * neighbours, in whatever bitmap, a call is fast; under any other element it takes many times as long.
  *
  * Who owns what
  *
  * All arrays are the caller's. No call keeps a pointer; what a call takes by malloc and realloc it frees before it returns. A
- * call reads what its const pointers point to, and writes `out` alone. The caller keeps that
+ * call reads what its const pointers point to, and writes `out` alone, and `components` where it has that. The caller keeps that
  *   - each pointer points to an array of that length; where the length is 0, it is not null and aligned all the same;
- *   - `out` overlaps nothing else that the call is given;
- *   - arrays of uint16_t and uint64_t are aligned;
- *   - nobody writes those arrays while a call runs, or reads `out`;
+ *   - `components` points to one number;
+ *   - `out` and `components` overlap nothing else that the call is given;
+ *   - arrays of uint16_t, uint32_t and uint64_t are aligned, and so is `components`;
+ *   - nobody writes those arrays while a call runs, or reads `out` or `components`;
  *   - no call runs in a signal handler, or in a child that a process with threads has forked;
  *   - malloc, realloc and free are of one allocator, and align as the C standard says.
  * Every call tests the rest. Any number of threads may call at once.
@@ -36,11 +40,13 @@
  * Answers
  *
  * 0 (MORPHD_DONE): `out` has the result. Any other answer is the first of these that holds, and `out` is as it was:
- *   1. the call's first number (operation, k of a threshold, levels): MORPHD_PARAM
- *   2. the image: MORPHD_SIZE, MORPHD_LENGTH, MORPHD_MAXVAL, MORPHD_SAMPLE
+ *   1. the call's first numbers (operation, k of a threshold, levels, method, kind, h, least, metric, top): MORPHD_PARAM
+ *   2. the image: MORPHD_SIZE, MORPHD_LENGTH, MORPHD_MAXVAL, MORPHD_SAMPLE; a mask in the same way behind its marker, and then
+ *      both: MORPHD_FRAME, MORPHD_LEVELS
  *   3. out_count is not the length of the result, or not that of rows of it that are asked for: MORPHD_LENGTH
  *   4. the element: MORPHD_SIZE, MORPHD_LENGTH, MORPHD_ORIGIN, MORPHD_EMPTY; then a second one in the same way
- *   5. what the operation asks of the element's pixels: MORPHD_NO_ORIGIN, MORPHD_PARAM (k of a rank), MORPHD_OVERLAP
+ *   5. what the operation asks of the element's pixels: MORPHD_NO_ORIGIN, MORPHD_PARAM (k of a rank), MORPHD_OVERLAP,
+ *      MORPHD_ONE_WAY
  * MORPHD_MEMORY may come in the place of the result, or of 5, since the element has to be in memory for that. The flat calls
  * and thresholds write strips of rows: all that can be refused is asked for before the first is written. A later strip for
  * which there is no memory is made sample by sample, slowly, and the answer is 0.
@@ -70,6 +76,25 @@ enum {
     MORPHD_RANK = 7           /* sample number min(k, m) of the m samples of S in rising order, from 1 */
 };
 
+/* Methods of reconstruction. */
+enum {
+    MORPHD_BY_DILATION = 0, /* the marker rises under the mask */
+    MORPHD_BY_EROSION = 1   /* the marker falls onto the mask */
+};
+
+/* Kinds of extrema. */
+enum {
+    MORPHD_MAXIMA = 0, /* domes, and plateaus that have no higher neighbour */
+    MORPHD_MINIMA = 1  /* basins, and plateaus that have no lower neighbour */
+};
+
+/* Metrics of distances. */
+enum {
+    MORPHD_CITY_BLOCK = 0,    /* steps to the places above, to the left, to the right and below */
+    MORPHD_CHESSBOARD = 1,    /* steps to these and to the four at the corners */
+    MORPHD_SQUARED_EUCLID = 2 /* the square of the straight way */
+};
+
 /* Answers. */
 enum {
     MORPHD_DONE = 0,
@@ -81,8 +106,11 @@ enum {
     MORPHD_EMPTY = 32,     /* no pixel of the bitmap is in the element */
     MORPHD_NO_ORIGIN = 45, /* a rank or a skeleton by an element without the pixel at its origin */
     MORPHD_OVERLAP = 46,   /* the two elements share a pixel, seen from their origins */
-    MORPHD_PARAM = 47,     /* an operation, k or levels outside its limits */
-    MORPHD_MEMORY = 50     /* malloc or realloc gave no memory */
+    MORPHD_PARAM = 47,     /* an operation, method, kind or metric, k, levels, h, least or top outside its limits */
+    MORPHD_MEMORY = 50,    /* malloc or realloc gave no memory */
+    MORPHD_FRAME = 53,     /* a marker and a mask of other widths or heights */
+    MORPHD_LEVELS = 54,    /* a marker and a mask of other maxvals */
+    MORPHD_ONE_WAY = 55    /* a pixel of the element has none on the other side of its origin */
 };
 
 /* The version of the release that this file came with. */
@@ -197,6 +225,130 @@ int32_t morphd_spectrum_set(
     uint32_t width, uint32_t height, const uint8_t *pixels, size_t count,
     const uint8_t *element, size_t element_count, uint32_t element_width, uint32_t element_height, uint32_t element_x, uint32_t element_y,
     uint64_t *out, size_t out_count);
+
+/* The reconstruction of a mask from a marker, which have the same sides and the same maxval; so has the result. out_count is the
+ * number of their samples. MORPHD_BY_DILATION: of the marker and the mask the lesser sample is taken at each place. Then each
+ * sample rises to the greatest under the element, but not over the mask, until none rises. MORPHD_BY_EROSION: the greater sample
+ * is taken, and each falls to the least under the element, but not under the mask, until none falls. Of sets the first is the
+ * pixels from which a path within the mask leads to one of the marker; a path goes from a place to one that the element covers
+ * there, and so on. Any other method answers MORPHD_PARAM. */
+int32_t morphd_reconstruct_u8(
+    uint32_t method,
+    uint32_t marker_width, uint32_t marker_height, uint8_t marker_maxval, const uint8_t *marker, size_t marker_count,
+    uint32_t mask_width, uint32_t mask_height, uint8_t mask_maxval, const uint8_t *mask, size_t mask_count,
+    const uint8_t *element, size_t element_count, uint32_t element_width, uint32_t element_height, uint32_t element_x, uint32_t element_y,
+    uint8_t *out, size_t out_count);
+int32_t morphd_reconstruct_u16(
+    uint32_t method,
+    uint32_t marker_width, uint32_t marker_height, uint16_t marker_maxval, const uint16_t *marker, size_t marker_count,
+    uint32_t mask_width, uint32_t mask_height, uint16_t mask_maxval, const uint16_t *mask, size_t mask_count,
+    const uint8_t *element, size_t element_count, uint32_t element_width, uint32_t element_height, uint32_t element_x, uint32_t element_y,
+    uint16_t *out, size_t out_count);
+int32_t morphd_reconstruct_set(
+    uint32_t method,
+    uint32_t marker_width, uint32_t marker_height, const uint8_t *marker, size_t marker_count,
+    uint32_t mask_width, uint32_t mask_height, const uint8_t *mask, size_t mask_count,
+    const uint8_t *element, size_t element_count, uint32_t element_width, uint32_t element_height, uint32_t element_x, uint32_t element_y,
+    uint8_t *out, size_t out_count);
+
+/* The set with its holes filled: all but the places from which a path outside of it leads to the border, which is the first and
+ * the last column and row of the image. */
+int32_t morphd_fill_set(
+    uint32_t width, uint32_t height, const uint8_t *pixels, size_t count,
+    const uint8_t *element, size_t element_count, uint32_t element_width, uint32_t element_height, uint32_t element_x, uint32_t element_y,
+    uint8_t *out, size_t out_count);
+
+/* The set without the pixels from which a path within it leads to one at the border. */
+int32_t morphd_clear_border_set(
+    uint32_t width, uint32_t height, const uint8_t *pixels, size_t count,
+    const uint8_t *element, size_t element_count, uint32_t element_width, uint32_t element_height, uint32_t element_x, uint32_t element_y,
+    uint8_t *out, size_t out_count);
+
+/* Levels of grey with their holes filled: each place rises to the least level that a path from it to the border has to reach. A
+ * path reaches the levels of its places. */
+int32_t morphd_fill_u8(
+    uint32_t width, uint32_t height, uint8_t maxval, const uint8_t *samples, size_t count,
+    const uint8_t *element, size_t element_count, uint32_t element_width, uint32_t element_height, uint32_t element_x, uint32_t element_y,
+    uint8_t *out, size_t out_count);
+int32_t morphd_fill_u16(
+    uint32_t width, uint32_t height, uint16_t maxval, const uint16_t *samples, size_t count,
+    const uint8_t *element, size_t element_count, uint32_t element_width, uint32_t element_height, uint32_t element_x, uint32_t element_y,
+    uint16_t *out, size_t out_count);
+
+/* The image less its reconstruction by dilation from its own border: from the marker that has the samples of the first and the
+ * last column and row, and 0 within. */
+int32_t morphd_clear_border_u8(
+    uint32_t width, uint32_t height, uint8_t maxval, const uint8_t *samples, size_t count,
+    const uint8_t *element, size_t element_count, uint32_t element_width, uint32_t element_height, uint32_t element_x, uint32_t element_y,
+    uint8_t *out, size_t out_count);
+int32_t morphd_clear_border_u16(
+    uint32_t width, uint32_t height, uint16_t maxval, const uint16_t *samples, size_t count,
+    const uint8_t *element, size_t element_count, uint32_t element_width, uint32_t element_height, uint32_t element_x, uint32_t element_y,
+    uint16_t *out, size_t out_count);
+
+/* MORPHD_MAXIMA: the reconstruction by dilation of the image from the image less h, stopping at 0: h is cut off each dome, and
+ * domes of a height up to h are gone. MORPHD_MINIMA: the reconstruction by erosion of the image from the image and h, stopping at
+ * the maxval: each basin is filled up by h, and basins of a depth up to h are gone. h is from 1 to 65535. Any other kind or h
+ * answers MORPHD_PARAM. */
+int32_t morphd_extrema_h_u8(
+    uint32_t kind, uint32_t h,
+    uint32_t width, uint32_t height, uint8_t maxval, const uint8_t *samples, size_t count,
+    const uint8_t *element, size_t element_count, uint32_t element_width, uint32_t element_height, uint32_t element_x, uint32_t element_y,
+    uint8_t *out, size_t out_count);
+int32_t morphd_extrema_h_u16(
+    uint32_t kind, uint32_t h,
+    uint32_t width, uint32_t height, uint16_t maxval, const uint16_t *samples, size_t count,
+    const uint8_t *element, size_t element_count, uint32_t element_width, uint32_t element_height, uint32_t element_x, uint32_t element_y,
+    uint16_t *out, size_t out_count);
+
+/* The set of what that takes away or adds with h = 1. By the four or the eight neighbours these are, for MORPHD_MAXIMA, the
+ * plateaus of a level over 0 that have no higher neighbour, and for MORPHD_MINIMA those of a level under the maxval that have no
+ * lower one. Any other kind answers MORPHD_PARAM. */
+int32_t morphd_extrema_regional_u8(
+    uint32_t kind,
+    uint32_t width, uint32_t height, uint8_t maxval, const uint8_t *samples, size_t count,
+    const uint8_t *element, size_t element_count, uint32_t element_width, uint32_t element_height, uint32_t element_x, uint32_t element_y,
+    uint8_t *out, size_t out_count);
+int32_t morphd_extrema_regional_u16(
+    uint32_t kind,
+    uint32_t width, uint32_t height, uint16_t maxval, const uint16_t *samples, size_t count,
+    const uint8_t *element, size_t element_count, uint32_t element_width, uint32_t element_height, uint32_t element_x, uint32_t element_y,
+    uint8_t *out, size_t out_count);
+
+/* Components: two pixels of a set are of one component where a path within the set leads from one to the other. With each pixel
+ * the element has the one on the other side of its origin; else these calls answer MORPHD_ONE_WAY. Components are counted by their
+ * first pixels, by rows from the top. */
+
+/* The labels of a set: 0 for what is not in it, and for each pixel the number of its component, from 1. `*components` is how many
+ * there are; it is written where the answer is 0. */
+int32_t morphd_label_set(
+    uint32_t width, uint32_t height, const uint8_t *pixels, size_t count,
+    const uint8_t *element, size_t element_count, uint32_t element_width, uint32_t element_height, uint32_t element_x, uint32_t element_y,
+    uint32_t *out, size_t out_count, uint32_t *components);
+
+/* What is told of each component: seven numbers, one component after the other. These are the column and the row of its first
+ * pixel, how many pixels it has, and its first column, first row, last column and last row. They come at the front of `out`, which
+ * may be longer, and keeps what stands behind them; out_count may be 0. `*components` is how many components there are. Where
+ * out_count is less than seven times that, the answer is MORPHD_LENGTH: that is found last, and `*components` is written then too,
+ * and where the answer is 0. */
+int32_t morphd_regions_set(
+    uint32_t width, uint32_t height, const uint8_t *pixels, size_t count,
+    const uint8_t *element, size_t element_count, uint32_t element_width, uint32_t element_height, uint32_t element_x, uint32_t element_y,
+    uint32_t *out, size_t out_count, uint32_t *components);
+
+/* The components of a set that have `least` pixels or more. `least` is not 0. */
+int32_t morphd_area_set(
+    uint32_t least,
+    uint32_t width, uint32_t height, const uint8_t *pixels, size_t count,
+    const uint8_t *element, size_t element_count, uint32_t element_width, uint32_t element_height, uint32_t element_x, uint32_t element_y,
+    uint8_t *out, size_t out_count);
+
+/* Distances: 0 for what is not in the set, and for each pixel how far the nearest place of the image is that is not in it, or `top`
+ * where that is less or there is no such place. Outside of the image nothing is near. `top` is not 0. */
+int32_t morphd_distance_set(
+    uint32_t metric, uint32_t top,
+    uint32_t width, uint32_t height, const uint8_t *pixels, size_t count,
+    uint32_t *out, size_t out_count);
 
 #ifdef __cplusplus
 }

@@ -49,6 +49,13 @@ ROWS = [
     ("mask", "morphd.restored(morphd.skeleton(mask, morphd.diamond(1), 4), morphd.diamond(1), 4)", "the set that it came from"),
     ("grains", "morphd.spectrum(morphd.threshold(grains, 120), morphd.octagon(2, 1), 4)",
      "how wide the largest octagon is that fits into the grains: 1 to 3, 4 to 6, .. pixels"),
+    ("text", "morphd.fill_holes(~morphd.threshold(text, 128))", "letters with their holes filled"),
+    ("grains", "morphd.clear_border(morphd.threshold(grains, 120))", "what the frame cuts goes, and what hangs together with it"),
+    ("grains", "morphd.remove_small_objects(morphd.threshold(grains, 120), 10)", "what has fewer than ten pixels goes"),
+    ("grains", "morphd.reconstruction(morphd.opening(grains, morphd.disk(3)), grains)", "grains that hold a disc come back whole"),
+    ("grains", "morphd.hmax(grains, 90)", "domes are cut by 90 levels, so faint specks go"),
+    ("grains", "morphd.label(morphd.remove_small_objects(morphd.threshold(grains, 120), 10))", "a number for each grain, or heap of grains"),
+    ("grains", "morphd.distance(morphd.threshold(grains, 120), 'cityblock')", "how far each pixel lies from the ground"),
 ]
 
 
@@ -89,6 +96,8 @@ def shown(made):
         return bars(made)
     if made.dtype == bool:
         return made.astype(numpy.uint8) * 255
+    if made.dtype == numpy.int32:
+        return (made * 255 // max(int(made.max()), 1)).astype(numpy.uint8)
     return made if made.max() > 20 else made * (255 // max(int(made.max()), 1))
 
 

@@ -5,9 +5,9 @@
     opened = morphd.opening(image, morphd.disk(5))
     curve = morphd.spectrum(morphd.threshold(opened, morphd.otsu(opened)), morphd.octagon(3, 2), 16, pixel="0.32um")
 
-Every result comes from libmorphd or from the program `morphd`: this package has no operator of its own. `operators`,
-`curves` and `files` need NumPy, `dask` needs Dask; `footprints`, `session`, `pixels`, `doubts` and `errors` need nothing but Python. What a
-name needs is imported when the name is used.
+Every image, label and area comes from libmorphd or from the program `morphd`: this package has no operator of its own. `operators`,
+`geodesics`, `grains`, `curves` and `files` need NumPy, `dask` needs Dask; `footprints`, `session`, `pixels`, `doubts` and `errors` need
+nothing but Python. What a name needs is imported when the name is used.
 """
 from __future__ import annotations
 
@@ -26,6 +26,11 @@ _MODULES = {
         "black_tophat", "closing", "dilation", "erosion", "gradient", "hit_or_miss", "median", "opening", "percentile",
         "rank", "restored", "skeleton", "threshold", "white_tophat",
     ),
+    "geodesics": (
+        "area_opening", "clear_border", "distance", "fill_holes", "h_maxima", "h_minima", "hmax", "hmin", "label",
+        "local_maxima", "local_minima", "reconstruction", "remove_small_objects",
+    ),
+    "grains": ("Regions", "Summary", "regions"),
     "curves": ("Spectrum", "spectrum"),
     "files": ("Loaded", "load", "read", "write"),
     "levels": ("otsu",),
@@ -37,15 +42,23 @@ _MODULES = {
 _HOMES = {name: module for module, names in _MODULES.items() for name in names}
 # What modules need: its name in words, and the package that has it.
 _NEEDS = {"numpy": ("NumPy", "python3-numpy"), "dask": ("Dask", "python3-dask")}
-_SUBMODULES = ("curves", "dask", "doubts", "errors", "files", "footprints", "levels", "netpbm", "operators", "pixels", "session")
+_SUBMODULES = (
+    "curves", "dask", "doubts", "errors", "files", "footprints", "geodesics", "grains", "levels", "netpbm", "operators", "pixels",
+    "session",
+)
 
 if TYPE_CHECKING:
-    from . import curves, dask, doubts, errors, files, footprints, levels, netpbm, operators, pixels, session
+    from . import curves, dask, doubts, errors, files, footprints, geodesics, grains, levels, netpbm, operators, pixels, session
     from ._library import library_version
     from .curves import Spectrum, spectrum
     from .errors import Cancelled, InputFailed, LibraryMissing, OutOfMemory, ProgramMissing, Refused, SessionEnded
     from .files import Loaded, load, read, write
     from .footprints import Footprint, Reach, diamond, disk, line, octagon, rectangle, square
+    from .geodesics import (
+        area_opening, clear_border, distance, fill_holes, h_maxima, h_minima, hmax, hmin, label, local_maxima,
+        local_minima, reconstruction, remove_small_objects,
+    )
+    from .grains import Regions, Summary, regions
     from .levels import otsu
     from .netpbm import Picture
     from .operators import (
@@ -57,10 +70,12 @@ if TYPE_CHECKING:
 
 __all__ = [
     "Cancelled", "Footprint", "Handle", "InputFailed", "LibraryMissing", "Loaded", "OutOfMemory", "Picture", "Pixel",
-    "ProgramMissing", "Reach", "Refused", "Session", "SessionEnded", "Spectrum", "black_tophat", "closing", "diamond",
-    "dilation", "disk", "erosion", "gradient", "hit_or_miss", "library_version", "line", "load", "median", "octagon", "opening",
-    "otsu", "percentile", "rank", "read", "rectangle", "restored", "skeleton", "spectrum", "square", "threshold",
-    "white_tophat", "write",
+    "ProgramMissing", "Reach", "Refused", "Regions", "Session", "SessionEnded", "Spectrum", "Summary",
+    "area_opening", "black_tophat", "clear_border", "closing", "diamond", "dilation", "disk", "distance", "erosion",
+    "fill_holes", "gradient", "h_maxima", "h_minima", "hit_or_miss", "hmax", "hmin", "label", "library_version",
+    "line", "load", "local_maxima", "local_minima", "median", "octagon", "opening", "otsu", "percentile", "rank",
+    "read", "reconstruction", "rectangle", "regions", "remove_small_objects", "restored", "skeleton", "spectrum",
+    "square", "threshold", "white_tophat", "write",
 ]
 
 

@@ -6,6 +6,7 @@ import io
 import math
 import os
 import re
+import shlex
 import sys
 from collections.abc import Callable, Sequence
 from contextlib import suppress
@@ -16,11 +17,13 @@ from typing import TYPE_CHECKING, Any, NoReturn
 from . import __version__, footprints
 from ._crew import Crew, Writing
 from ._progress import bar
-from ._reports import Curves, in_words, tell
+from ._reports import Curves, Told, in_words, tell
 from .errors import LibraryMissing
 from .footprints import Footprint
 
 if TYPE_CHECKING:
+    from ._areas import Area
+    from ._grains_told import Found
     from ._targets import Target
     from .curves import Spectrum
     from .files import Loaded
@@ -34,6 +37,9 @@ examples:
   morph threshold --at otsu grains.png -o mask.png
   morph hit-or-miss --hit corner.pbm --miss beside.pbm mask.pbm -o corners.pbm
   morph spectrum --octagon 3,2 --sizes 16 --pixel 0.32um mask.png --plot curve.svg --csv curve.csv
+  morph grains --at otsu --clear-border --fill --min-area 5um2 --pixel 0.32um grains.png --csv grains.csv --report grains.html
+  morph label --connectivity 4 mask.png -o labels.png
+  morph reconstruct seeds.png mask.png -o found.png
   morph opening --disk 5 night/*.png --jobs 4 -o opened/
   morph white-tophat --disk 15 - < grains.png | morph threshold --at 40 - --format png > mask.png
   morph spectrum --disk 3 night/*.png --csv -
@@ -51,7 +57,11 @@ HELP = {
     "percentile": "the sample that Q of 100 lie below", "threshold": "the set of the samples of K or more",
     "hit-or-miss": "places where one footprint hits and another misses", "skeleton": "the skeleton of a set",
     "restored": "the set that a skeleton came from", "spectrum": "the sizes of grains, by openings of growing size",
+    "grains": "counts and measures grains one by one", "label": "a number for each component of a set",
+    "reconstruct": "the mask as far as it hangs together with a marker", "fill": "fills holes",
+    "clear-border": "takes away what touches the frame", "distance": "how far each pixel of a set is from its outside",
 }
+HANGING = ("label", "reconstruct", "fill", "clear-border", "distance")
 
 
 class Parser(argparse.ArgumentParser):
@@ -140,6 +150,19 @@ def _level(text: str) -> float | None:
     return None if text == "otsu" else _finite(text)
 
 
+def _level_or_otsu(text: str) -> float | str:
+    return text if text == "otsu" else _finite(text)
+
+
+def _min_area(text: str) -> Area:
+    from ._areas import area
+
+    try:
+        return area(text)
+    except ValueError as fault:
+        raise argparse.ArgumentTypeError(str(fault)) from None
+
+
 def _pixel(text: str) -> Pixel:
     from .pixels import pixel_size
 
@@ -166,18 +189,27 @@ def _add_edges(parser: argparse.ArgumentParser, usual: str) -> None:
 
 
 def _add_common(parser: argparse.ArgumentParser, name: str) -> None:
-    parser.add_argument("files", nargs="+", metavar="FILE", help="PBM, PGM, PNG or TIFF; - is standard input")
+    if name == "reconstruct":
+        parser.add_argument("marker", metavar="MARKER", help="PBM, PGM, PNG or TIFF; - is standard input")
+        parser.add_argument("files", nargs=1, metavar="MASK", help="a picture of the same sides and kind")
+    else:
+        parser.add_argument("files", nargs="+", metavar="FILE", help="PBM, PGM, PNG or TIFF; - is standard input")
     parser.add_argument("--channel", type=_channel, metavar="NAME", help="of colours: red, green, blue, alpha, or its number from 0")
     parser.add_argument("--page", type=_count, metavar="N", help="of several pages, from 0; a stack of all if left out")
-    parser.add_argument("--workers", type=int, metavar="N", help="threads for each picture, -1 for all processors")
+    if name not in ("grains", *HANGING):
+        parser.add_argument("--workers", type=int, metavar="N", help="threads for each picture, -1 for all processors")
     parser.add_argument("--jobs", type=int, default=1, metavar="N", help="pictures at the same time")
     parser.add_argument("--quiet", action="store_true", help="no progress bar")
     parser.add_argument("--force", action="store_true", help="write over files that are read, too")
-    if name != "skeleton":
+    if name not in ("skeleton", "label", "distance"):
         parser.add_argument("--maxval", type=int, metavar="SAMPLE", help="the greatest sample there can be, as 4095")
     if name == "spectrum":
         parser.add_argument("--plot", metavar="FILE", help="draw the curve, as SVG, PNG or PDF")
         parser.add_argument("--csv", metavar="FILE", help="write the curve; of several files, one table; - is standard output")
+    elif name == "grains":
+        parser.add_argument("--csv", metavar="FILE", help="write a row for each grain; of several files, one table; - is standard output")
+        parser.add_argument("--overlay", metavar="FILE", help="draw outlines and numbers of grains into the picture, as PNG")
+        parser.add_argument("--report", metavar="FILE", help="write a page of HTML with all of it; of several files, one page")
     else:
         parser.add_argument("--format", choices=("pnm", "png", "tiff"), help="the result's form; if left out, as its name tells, or pnm")
         parser.add_argument("-o", "--output", metavar="FILE", help="the result; a folder for several files; - is standard output")
@@ -215,8 +247,33 @@ def _add_numbers(parser: argparse.ArgumentParser, name: str, bitmaps: list[str])
         parser.add_argument("--levels", type=int, required=True, metavar="L", help="1 to 254")
     elif name == "spectrum":
         parser.add_argument("--sizes", type=int, default=16, metavar="N", help="how many openings, 1 to 32")
-        told = "the side of a pixel, as 0.32um; what a TIFF tells if left out, else widths are in pixels"
-        parser.add_argument("--pixel", type=_pixel, metavar="SIZE", help=told)
+        _add_pixel(parser, "widths")
+    elif name == "grains":
+        _add_grains(parser)
+    elif name == "distance":
+        metrics = ("euclidean", "sqeuclidean", "cityblock", "chessboard")
+        parser.add_argument("--metric", choices=metrics, default=metrics[0], help="rounded to whole pixels; euclidean if left out")
+    elif name == "reconstruct":
+        told = "dilation, which raises the marker to the mask, or erosion; dilation if left out"
+        parser.add_argument("--method", choices=("dilation", "erosion"), default="dilation", help=told)
+    if name in ("grains", *HANGING[:-1]):
+        told = "pixels of the set hang together by sides (4) or by corners too (8); 8 if left out"
+        parser.add_argument("--connectivity", type=int, choices=(4, 8), default=8, help=told)
+
+
+def _add_pixel(parser: argparse.ArgumentParser, what: str) -> None:
+    told = f"the side of a pixel, as 0.32um; what a TIFF tells if left out, else {what} are in pixels"
+    parser.add_argument("--pixel", type=_pixel, metavar="SIZE", help=told)
+
+
+def _add_grains(parser: argparse.ArgumentParser) -> None:
+    """The options of `grains`, but for files."""
+    parser.add_argument("--at", type=_level_or_otsu, metavar="K", help="a level, or otsu, which finds one; of a set it is left out")
+    parser.add_argument("--dark", action="store_true", help="grains are what is darker than the level, or outside the set")
+    parser.add_argument("--clear-border", action="store_true", help="leave out grains that the frame cuts")
+    parser.add_argument("--fill", action="store_true", help="fill holes")
+    parser.add_argument("--min-area", type=_min_area, metavar="AREA", help="the least area, as 30um2, or 30 for pixels; smaller grains go")
+    _add_pixel(parser, "sizes")
 
 
 @dataclass(frozen=True)
@@ -227,8 +284,8 @@ class Job:
     path: str
     writing: Writing
 
-    def run(self) -> Spectrum | None:
-        """Reads, computes and writes. A curve is given, since it may have to be told behind those of other files."""
+    def run(self) -> Spectrum | Found | None:
+        """Reads, computes and writes. Curves and grains are given, since they may have to be told behind those of other files."""
         from . import files
 
         loaded = files.load(self.path, channel=self.words.channel, page=self.words.page)
@@ -236,17 +293,24 @@ class Job:
             curve = self._spectrum(loaded)
             self._keep(curve)
             return curve
+        if self.words.operation == "grains":
+            return self._grains(loaded)
         made = self._made(loaded)
         if self.words.operation == "threshold" and not made.any():
             self._say(f"no sample reaches the threshold, so the set is empty: the greatest is {loaded.array.max()}")
-        levels = self.words.levels + 1 if self.words.operation == "skeleton" else self._maxval(loaded)
-        maxval, form, target = None if made.dtype == bool else levels, self.words.format, self.words.results.of(self.path)
+        maxval, form, target = self._greatest(made, loaded), self.words.format, self.words.results.of(self.path)
         pixel = loaded.pixel if loaded.pixel is not None and loaded.pixel.micrometres else None
         if target == "-":
             files.write("-", made, maxval, pixel, form=form)
         else:
             self.writing.write(target, files.encoded_for(target, made, maxval, pixel, form))
         return None
+
+    def _greatest(self, made: Any, loaded: Loaded) -> int | None:
+        """The maxval of what is made; None for that of its type."""
+        if made.dtype == bool or self.words.operation in ("label", "distance"):
+            return None
+        return self.words.levels + 1 if self.words.operation == "skeleton" else self._maxval(loaded)
 
     def _say(self, line: str) -> None:
         """Tells something of the picture beside the result."""
@@ -264,6 +328,8 @@ class Job:
         from . import operators
 
         words, name = self.words, self.words.operation.replace("-", "_")
+        if words.operation in HANGING:
+            return self._hanging(loaded)
         options: dict[str, Any] = {"workers": words.workers, "axes": (1, 2) if loaded.array.ndim == 3 else None}
         if loaded.array.dtype != bool and name != "skeleton":
             options["maxval"] = self._maxval(loaded)
@@ -280,6 +346,26 @@ class Job:
         else:
             arguments = [*number, self._footprint()]
         return getattr(operators, name)(loaded.array, *arguments, **options)
+
+    def _hanging(self, loaded: Loaded) -> Any:
+        from . import _hanging
+
+        maxval = None if loaded.array.dtype == bool else self._maxval(loaded)
+        return _hanging.made(loaded, self.words, {"maxval": maxval, "axes": (1, 2) if loaded.array.ndim == 3 else None})
+
+    def _grains(self, loaded: Loaded) -> Found:
+        """Measures grains, and writes what a picture has for itself."""
+        from ._grains_told import asked_of, written
+        from ._measured import measured
+
+        words, asked = self.words, asked_of(self.words)
+        for doubt in () if words.pixel else loaded.doubts:
+            self._say(f"{doubt}: sizes are in pixels, unless --pixel tells a side")
+        maxval = None if loaded.array.dtype == bool else self._maxval(loaded)
+        found = measured(self.path, loaded, asked, words.pixel, maxval)
+        if asked.is_otsu and found.asked.at is not None:
+            self._say(f"the threshold is {found.asked.at:g}, by Otsu")
+        return written(found, words, self.writing.write)
 
     def _otsu(self, loaded: Loaded) -> int:
         from .levels import otsu
@@ -319,14 +405,16 @@ def _targets_of(words: argparse.Namespace) -> list[Target]:
     file that holds the curves of all."""
     from . import _targets
 
-    words.results = words.curves = words.plots = words.table = None
-    if words.operation != "spectrum":
+    words.results = words.curves = words.plots = words.reports = words.table = None
+    if words.operation not in ("spectrum", "grains"):
         words.results = _targets.of_pictures(words.operation, words.output or "-", words.format, words.files)
         found: list[Target] = words.results.targets()
         _targets.check_forms(found, words.format)
         return found
     found = []
-    if words.plot is not None:
+    if words.operation == "grains":
+        found += _targets_of_grains(words)
+    elif words.plot is not None:
         words.plots = _targets.Output("--plot", words.plot, words.files, {"": ".svg"})
         found += words.plots.targets()
     if words.csv is not None:
@@ -340,18 +428,53 @@ def _targets_of(words: argparse.Namespace) -> list[Target]:
     return found
 
 
+def _targets_of_grains(words: argparse.Namespace) -> list[Target]:
+    """Where drawings and reports of grains go. A report that is no folder is one of all files."""
+    from . import _targets
+
+    found: list[Target] = []
+    if words.overlay is not None:
+        words.plots = _targets.Output("--overlay", words.overlay, words.files, {"": ".png"})
+        found += words.plots.targets()
+    if words.report is not None:
+        reports = _targets.Output("--report", words.report, words.files, {"": ".html"})
+        if reports.is_folder:
+            words.reports = reports
+            found += reports.targets()
+        else:
+            found.append(_targets.Target(f"--report {words.report}", "all files", words.report))
+    return found
+
+
+def _check_grains(parser: argparse.ArgumentParser, words: argparse.Namespace) -> None:
+    """Faults between the words of `grains`."""
+    for option, suffix in (("overlay", ".png"), ("report", ".html")):
+        to = getattr(words, option)
+        is_folder = to is not None and (to.endswith("/") or os.path.isdir(to))
+        if to == "-" or (to is not None and not is_folder and Path(to).suffix.lower() not in ("", suffix)):
+            parser.error(f"--{option} takes a file that ends with {suffix}, or a folder")
+    if words.min_area is not None and words.pixel is not None and not words.min_area.goes_with(words.pixel):
+        parser.error(f"--min-area {words.min_area.text} is no area in the unit of --pixel, which is {words.pixel}")
+
+
 def _check(parser: argparse.ArgumentParser, words: argparse.Namespace) -> None:
     """Faults of the command line that lie between its words."""
     from . import _targets
 
     if words.jobs < 1:
         parser.error("--jobs is a number from 1 on")
-    if words.workers == 0:
+    if getattr(words, "workers", None) == 0:
         parser.error("--workers is a number from 1 on, or -1")
-    if words.operation != "spectrum" and words.output is None and words.files != ["-"]:
+    if words.operation not in ("spectrum", "grains") and words.output is None and words.files != ["-"]:
         parser.error("-o says where the result goes")
     if words.operation == "spectrum" and words.plot == "-":
         parser.error("--plot takes a file, whose suffix tells its form")
+    if words.operation == "grains":
+        _check_grains(parser, words)
+    if words.operation == "reconstruct":
+        if words.marker == words.files[0] == "-":
+            parser.error("-: the standard input is read once")
+        words.bitmaps.append(words.marker)
     if getattr(words, "origin", None) is not None:
         try:
             words.shape.at(words.origin)
@@ -363,24 +486,33 @@ def _check(parser: argparse.ArgumentParser, words: argparse.Namespace) -> None:
         parser.error(str(fault))
 
 
+def _told(words: argparse.Namespace) -> Told:
+    """Where what is found in all files is told."""
+    if words.operation == "grains":
+        from ._grains_told import Grains
+
+        return Grains(words)
+    is_told = words.table is not None or (words.curves is None and words.plots is None)
+    return Curves(words.table, len(words.files) > 1, is_told)
+
+
 def _run(words: argparse.Namespace, writing: Writing) -> int:
     """Runs all jobs; gives the exit status."""
     status, is_shown = 0, len(words.files) > 1 and not words.quiet and sys.stderr is not None and sys.stderr.isatty()
-    for output in (words.results, words.curves, words.plots):
+    for output in (words.results, words.curves, words.plots, words.reports):
         if output is not None:
             output.make_folder()
-    told = Curves(words.table, len(words.files) > 1)
-    is_told = words.table is not None or (words.curves is None and words.plots is None)
+    told = _told(words)
     one_more = bar(len(words.files), "picture") if is_shown else lambda: None
     crew = Crew(words.jobs, [Job(words, path, writing).run for path in words.files], one_more)
     try:
         for path, result in zip(words.files, crew.results()):
             try:
-                curve = result.result()
-                for doubt in () if curve is None else curve.doubts:
+                found = result.result()
+                for doubt in () if found is None else found.doubts:
                     tell(f"{path}: {doubt}")
-                if curve is not None and is_told:
-                    told.put(path, curve)
+                if found is not None:
+                    told.put(path, found)
             except (BrokenPipeError, LibraryMissing):
                 raise
             except Exception as fault:
@@ -423,6 +555,7 @@ def main(arguments: Sequence[str] | None = None) -> int:
     parser, writing = _parser(), Writing()
     try:
         words = parser.parse_args(arguments)
+        words.command = shlex.join(["morph", *(sys.argv[1:] if arguments is None else arguments)])
         _check(parser, words)
         status = _run(words, writing)
         _flush()

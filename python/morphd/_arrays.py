@@ -180,10 +180,15 @@ def _of_values(array: NDArray[Any], cval: Any, what: str) -> Reading:
     return Reading(field, dtype, lambda value: _place(values, value), back, outside)
 
 
+def is_taken(dtype: np.dtype[Any]) -> bool:
+    """Whether samples of this type go to the library as they are."""
+    return dtype == np.bool_ or dtype.newbyteorder("=") in _LEVELS
+
+
 def check_kind(array: NDArray[Any], what: str, only_compares: bool) -> None:
     """Refuses types that the operator does not take."""
     dtype = array.dtype
-    if dtype == np.bool_ or dtype.newbyteorder("=") in _LEVELS:
+    if is_taken(dtype):
         return
     if dtype.kind not in "iuf":
         raise TypeError(f"{what} takes arrays of bool, integers and floats, and this is one of {dtype}")

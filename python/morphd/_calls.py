@@ -81,7 +81,7 @@ class Call(Protocol):
         """The call itself, which writes the result. It holds both arrays."""
 
 
-def _array(samples: Samples) -> tuple[int, int]:
+def array_at(samples: Samples) -> tuple[int, int]:
     return samples.ctypes.data, samples.size
 
 
@@ -89,16 +89,16 @@ def _holding(_arrays: tuple[Samples, ...], call: Callable[[], None]) -> None:
     call()
 
 
-def _ready(name: str, asked: Callable[[], str], arguments: tuple[Any, ...], *arrays: Samples) -> Callable[[], None]:
+def ready_with(name: str, asked: Callable[[], str], arguments: tuple[Any, ...], *arrays: Samples) -> Callable[[], None]:
     """A call of the library that holds the arrays whose addresses it has: a thread can be in the middle of it when nobody else does."""
     return partial(_holding, arrays, _library.ready(name, asked, *arguments))
 
 
-def _frame(field: Field) -> tuple[int, int]:
+def frame_of(field: Field) -> tuple[int, int]:
     return field.samples.shape[1], field.samples.shape[0]
 
 
-def _element(footprint: Footprint) -> tuple[bytes, int, int, int, int, int]:
+def element_of(footprint: Footprint) -> tuple[bytes, int, int, int, int, int]:
     (rows, columns), (row, column) = footprint.shape, footprint.origin
     return footprint.pixels, len(footprint.pixels), columns, rows, column, row
 
@@ -133,11 +133,11 @@ class Flat:
         return field.samples.dtype
 
     def _arguments(self, field: Field, out: Samples) -> tuple[Any, ...]:
-        return (*_frame(field), *field.top, *_array(field.samples), *_element(self.footprint), *_array(out))
+        return (*frame_of(field), *field.top, *array_at(field.samples), *element_of(self.footprint), *array_at(out))
 
     def ready(self, field: Field, out: Samples) -> Callable[[], None]:
         arguments = (self.op, self.k, *self._arguments(field, out))
-        return _ready(f"morphd_flat_{field.kind}", lambda: f"{self} of {field}", arguments, field.samples, out)
+        return ready_with(f"morphd_flat_{field.kind}", lambda: f"{self} of {field}", arguments, field.samples, out)
 
     def rows_of(self, field: Field, out: Samples) -> Callable[[Rows], Callable[[], None]]:
         """What makes, of rows of the result, the call that writes them alone, where the operation has one step.
@@ -152,15 +152,15 @@ class Flat:
             Room for the whole result.
         """
         name, width = f"morphd_flat_rows_{field.kind}", field.samples.shape[1]
-        (start, _), (target, _), step = _array(field.samples), _array(out), width * field.samples.itemsize
+        (start, _), (target, _), step = array_at(field.samples), array_at(out), width * field.samples.itemsize
 
         def ready(rows: Rows) -> Callable[[], None]:
             seen = rows.last - rows.first
             samples = start + rows.first * step, seen * width
             room = target + rows.begin * step, (rows.end - rows.begin) * width
             begin = rows.begin - rows.first
-            arguments = (self.op, self.k, begin, width, seen, *field.top, *samples, *_element(self.footprint), *room)
-            return _ready(name, lambda: f"rows of {self} of {field}", arguments, field.samples, out)
+            arguments = (self.op, self.k, begin, width, seen, *field.top, *samples, *element_of(self.footprint), *room)
+            return ready_with(name, lambda: f"rows of {self} of {field}", arguments, field.samples, out)
 
         return ready
 
@@ -184,8 +184,8 @@ class Threshold:
         return np.uint8
 
     def ready(self, field: Field, out: Samples) -> Callable[[], None]:
-        arguments = (self.k, *_frame(field), field.maxval, *_array(field.samples), *_array(out))
-        return _ready(f"morphd_threshold_{field.levels.kind}", lambda: f"{self} of {field}", arguments, field.samples, out)
+        arguments = (self.k, *frame_of(field), field.maxval, *array_at(field.samples), *array_at(out))
+        return ready_with(f"morphd_threshold_{field.levels.kind}", lambda: f"{self} of {field}", arguments, field.samples, out)
 
     def __str__(self) -> str:
         return f"threshold at {self.k}"
@@ -210,9 +210,9 @@ class HitOrMiss:
         return field.samples.dtype
 
     def ready(self, field: Field, out: Samples) -> Callable[[], None]:
-        elements = (*_element(self.hit), *_element(self.miss))
-        arguments = (*_frame(field), *field.top, *_array(field.samples), *elements, *_array(out))
-        return _ready(f"morphd_hit_or_miss_{field.kind}", lambda: f"{self} of {field}", arguments, field.samples, out)
+        elements = (*element_of(self.hit), *element_of(self.miss))
+        arguments = (*frame_of(field), *field.top, *array_at(field.samples), *elements, *array_at(out))
+        return ready_with(f"morphd_hit_or_miss_{field.kind}", lambda: f"{self} of {field}", arguments, field.samples, out)
 
     def __str__(self) -> str:
         return f"hit-or-miss by {self.hit!r} and {self.miss!r}"
@@ -238,8 +238,8 @@ class Skeleton:
         return np.uint8
 
     def ready(self, field: Field, out: Samples) -> Callable[[], None]:
-        arguments = (self.levels, *_frame(field), *_array(field.samples), *_element(self.footprint), *_array(out))
-        return _ready("morphd_skeleton", lambda: f"{self} of {field}", arguments, field.samples, out)
+        arguments = (self.levels, *frame_of(field), *array_at(field.samples), *element_of(self.footprint), *array_at(out))
+        return ready_with("morphd_skeleton", lambda: f"{self} of {field}", arguments, field.samples, out)
 
     def __str__(self) -> str:
         return f"skeleton of {self.levels} levels by {self.footprint!r}"
@@ -264,8 +264,8 @@ class Restoration:
         return np.uint8
 
     def ready(self, field: Field, out: Samples) -> Callable[[], None]:
-        arguments = (self.levels, *_frame(field), field.maxval, *_array(field.samples), *_element(self.footprint), *_array(out))
-        return _ready(f"morphd_restore_{field.levels.kind}", lambda: f"{self} of {field}", arguments, field.samples, out)
+        arguments = (self.levels, *frame_of(field), field.maxval, *array_at(field.samples), *element_of(self.footprint), *array_at(out))
+        return ready_with(f"morphd_restore_{field.levels.kind}", lambda: f"{self} of {field}", arguments, field.samples, out)
 
     def __str__(self) -> str:
         return f"restoration of {self.levels} levels by {self.footprint!r}"
@@ -274,6 +274,6 @@ class Restoration:
 def volumes(field: Field, footprint: Footprint, levels: int) -> Samples:
     """The volumes of a spectrum: of the array, and behind each of so many openings."""
     out = np.zeros(max(levels, 0) + 1, np.uint64)
-    arguments = (levels, *_frame(field), *field.top, *_array(field.samples), *_element(footprint), *_array(out))
+    arguments = (levels, *frame_of(field), *field.top, *array_at(field.samples), *element_of(footprint), *array_at(out))
     _library.call(f"morphd_spectrum_{field.kind}", lambda: f"spectrum of {levels} sizes by {footprint!r} of {field}", *arguments)
     return out

@@ -42,6 +42,28 @@ out : ndarray, optional
 workers : int, optional
     How many threads share the rows; -1 is one for each processor that this process may use. The result is the same. An
     interrupt is raised when the threads have ended what they had begun.""",
+    "around": """\
+footprint : Footprint or array_like, optional
+    Which pixels hang together: p with those at p + b, b in the footprint. The square of 3 x 3 if left out, as scikit-image has
+    it: pixels that share a side or a corner.""",
+    "whole": """\
+maxval : int, optional
+    The greatest sample that an array of uint8 or uint16 can have; the type's if left out. A sample over it is refused.
+axes : (int, int), optional
+    Which axes are the rows and the columns of a plane, for arrays with more than two. Planes are treated by themselves.
+out : ndarray, optional
+    Where the result is written: an array of the image's shape and of the result's type. It may be `image`.""",
+    "planes": """\
+axes : (int, int), optional
+    Which axes are the rows and the columns of a plane, for arrays with more than two. Planes are treated by themselves.
+out : ndarray of bool, optional
+    Where the result is written: an array of the shape of `mask`, which it may be.""",
+    "mask": """\
+mask : array_like of bool
+    Two axes. An array of uint8 is taken, too, where it has a single value that is not 0, as masks in files have 255.""",
+    "connectivity": """\
+connectivity : {{1, 2}}, optional
+    1 where pixels hang together that share a side, 2, or left out, where those that share a corner do, too.""",
     "raises": """\
 Refused
     Where the library refuses it: by number and word, see docs/PROTOCOL.md.
@@ -61,6 +83,8 @@ _BOOKS = {
              "   and Cytochemistry 27, 1979, pp. 128-135.",
     "huang": 'T. S. Huang, G. J. Yang and G. Y. Tang, "A fast two-dimensional median filtering algorithm", IEEE Transactions on\n'
              "   Acoustics, Speech and Signal Processing 27, 1979, pp. 13-18.",
+    "vincent": 'L. Vincent, "Morphological grayscale reconstruction in image analysis: applications and efficient algorithms", IEEE\n'
+               "   Transactions on Image Processing 2, 1993, pp. 176-201.",
     "lantuejoul": 'C. Lantuejoul, "La squelettisation et son application aux mesures topologiques des mosaiques polycristallines",\n'
                   "   thesis, Ecole des Mines de Paris, 1978.",
 }
@@ -68,6 +92,9 @@ COMPARES = """\
 Other integers and
     floats are taken, too, with up to 65,536 values in a plane and no NaN, since the operator only compares samples; 0.0 and
     -0.0 are one value. Where a footprint sees nothing, an erosion gives the plane's greatest value, and a dilation its least."""
+FILLS = """\
+Other integers and
+    floats are taken, too, with up to 65,536 values in a plane and no NaN, since holes only compare samples."""
 COMPUTES = "Other types are refused, since the operator subtracts samples."
 
 

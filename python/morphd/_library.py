@@ -28,12 +28,25 @@ PROTOTYPES: dict[str, tuple[Any, ...]] = {
     "morphd_skeleton": (_U32, *_FRAME, *_ARRAY, *_ELEMENT, *_ARRAY),
     **{f"morphd_restore_{kind}": (_U32, *_FRAME, *_TOPS[kind], *_ARRAY, *_ELEMENT, *_ARRAY) for kind in ("u8", "u16")},
     **{f"morphd_spectrum_{kind}": (_U32, *_FRAME, *top, *_ARRAY, *_ELEMENT, *_ARRAY) for kind, top in _TOPS.items()},
+    **{f"morphd_reconstruct_{kind}": (_U32, *2 * (*_FRAME, *top, *_ARRAY), *_ELEMENT, *_ARRAY) for kind, top in _TOPS.items()},
+    **{f"morphd_fill_{kind}": (*_FRAME, *top, *_ARRAY, *_ELEMENT, *_ARRAY) for kind, top in _TOPS.items()},
+    **{f"morphd_clear_border_{kind}": (*_FRAME, *top, *_ARRAY, *_ELEMENT, *_ARRAY) for kind, top in _TOPS.items()},
+    **{f"morphd_extrema_h_{kind}": (_U32, _U32, *_FRAME, *_TOPS[kind], *_ARRAY, *_ELEMENT, *_ARRAY) for kind in ("u8", "u16")},
+    **{f"morphd_extrema_regional_{kind}": (_U32, *_FRAME, *_TOPS[kind], *_ARRAY, *_ELEMENT, *_ARRAY) for kind in ("u8", "u16")},
+    "morphd_label_set": (*_FRAME, *_ARRAY, *_ELEMENT, *_ARRAY, _POINTER),
+    "morphd_regions_set": (*_FRAME, *_ARRAY, *_ELEMENT, *_ARRAY, _POINTER),
+    "morphd_area_set": (_U32, *_FRAME, *_ARRAY, *_ELEMENT, *_ARRAY),
+    "morphd_distance_set": (_U32, _U32, *_FRAME, *_ARRAY, *_ARRAY),
     "morphd_version": (),
 }
 ANSWERS = {name: _U32 if name == "morphd_version" else ctypes.c_int32 for name in PROTOTYPES}
 
 # The numbers of the operations of the flat calls.
 ERODE, DILATE, OPEN, CLOSE, GRADIENT, WHITE_TOPHAT, BLACK_TOPHAT, RANK = range(8)
+# The methods of reconstructions, the kinds of extrema, and the metrics of distances.
+BY_DILATION, BY_EROSION = range(2)
+MAXIMA, MINIMA = range(2)
+CITY_BLOCK, CHESSBOARD, SQUARED_EUCLID = range(3)
 
 MEMORY = 50
 # The version of include/morphd.h that this module speaks.

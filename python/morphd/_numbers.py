@@ -8,6 +8,8 @@ import operator
 from fractions import Fraction
 from typing import Any
 
+from .errors import Refused
+
 
 def real(value: Any, what: str) -> int | Fraction | float:
     """The number itself: a whole one or a fraction, or a float that is infinite or NaN."""
@@ -30,3 +32,10 @@ def whole(value: Any, what: str) -> int:
         return int(operator.index(value))
     except TypeError:
         raise TypeError(f"{what} is a whole number: {value!r}") from None
+
+
+def word(number: int, name: str) -> int:
+    """A number as an argument of the library, which refuses those outside its limits; what does not fit is refused here."""
+    if not 0 <= number < 1 << 32:
+        raise Refused(47, f"{name} with {number}")
+    return number

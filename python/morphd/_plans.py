@@ -16,6 +16,7 @@ import numpy as np
 from . import _edges
 from ._calls import Call, Field, Flat, Samples
 from ._edges import Edges
+from ._geodesic_calls import Whole
 from ._library import BLACK_TOPHAT, CLOSE, DILATE, ERODE, GRADIENT, OPEN, WHITE_TOPHAT
 from .footprints import Footprint, Reach
 
@@ -46,7 +47,7 @@ class Rimmed:
     plan: Plan
 
 
-Plan = Union[Call, Chain, Less, Rimmed]
+Plan = Union[Call, Chain, Less, Rimmed, Whole]
 
 
 class Run(NamedTuple):
@@ -182,6 +183,8 @@ def run(plan: Plan, on: Run, out: Samples | None = None) -> Samples:
         return _difference(upper, lower, out)
     if isinstance(plan, Rimmed):
         return _run_rimmed(plan, on, out)
+    if isinstance(plan, Whole):
+        return plan.made(on.field, out)
     return _edges.apply(plan, on.field, on.edges, out, on.workers)
 
 

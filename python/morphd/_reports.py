@@ -5,7 +5,7 @@ import csv
 import io
 import sys
 from pathlib import Path
-from typing import TYPE_CHECKING, TextIO
+from typing import IO, TYPE_CHECKING, Any, Protocol, TextIO
 
 if TYPE_CHECKING:
     from .curves import Spectrum
@@ -32,16 +32,23 @@ def in_words(path: str, fault: BaseException) -> str:
     return text if text.startswith(f"{path}:") else f"{path}: {text}"
 
 
+class Tabled(Protocol):
+    """What has a table: a curve, or grains."""
+
+    def to_csv(self, path: IO[str]) -> None:
+        """Writes it as comma-separated values."""
+
+
 class Table:
-    """The curves of several files as one table of comma-separated values, with a column for the file."""
+    """The tables of several files as one of comma-separated values, with a column for the file."""
 
     def __init__(self) -> None:
         self._head: list[str] | None = None
 
-    def rows(self, path: str, curve: Spectrum) -> str:
+    def rows(self, path: str, held: Tabled) -> str:
         """The lines of one file, behind the head where they are the first."""
         text, made = io.StringIO(), io.StringIO()
-        curve.to_csv(text)
+        held.to_csv(text)
         head, *rows = csv.reader(io.StringIO(text.getvalue()))
         if self._head is not None and self._head != head:
             raise ValueError(f"its columns are {', '.join(head)}, and those of the files before {', '.join(self._head)}: name one --pixel")
@@ -50,6 +57,16 @@ class Table:
         out.writerows([path, *row] for row in rows)
         self._head = head
         return made.getvalue()
+
+
+class Told(Protocol):
+    """Where what is found in all files is told, one after the other."""
+
+    def put(self, path: str, found: Any) -> None:
+        """Tells what was found in a file."""
+
+    def end(self) -> None:
+        """Tells what stands behind all."""
 
 
 class Curves:
@@ -61,14 +78,18 @@ class Curves:
         The table's file, '-' for the standard output; None where curves are told in words.
     has_names : bool
         Whether each is told with the name of its file.
+    is_told : bool
+        Whether they are told at all, and not in files of their own alone.
     """
 
-    def __init__(self, table: str | None, has_names: bool) -> None:
-        self._to, self._has_names, self._table = table, has_names, Table()
+    def __init__(self, table: str | None, has_names: bool, is_told: bool = True) -> None:
+        self._to, self._has_names, self._is_told, self._table = table, has_names, is_told, Table()
         self._lines: list[str] = []
 
     def put(self, path: str, curve: Spectrum) -> None:
         """Tells a curve."""
+        if not self._is_told:
+            return
         if self._to is None:
             print(f"{path}:\n{curve}" if self._has_names else curve, file=standard_output())
         elif not self._has_names:

@@ -15,7 +15,10 @@ from typing import NamedTuple
 from .files import FORMS, Form, form_of
 
 # What operations make, where it is not what they read: sets of levels, or levels of sets.
-_RENAMED = {"threshold": {".pgm": ".pbm"}, "restored": {".pgm": ".pbm"}, "skeleton": {".pbm": ".pgm"}}
+_RENAMED = {
+    "threshold": {".pgm": ".pbm"}, "restored": {".pgm": ".pbm"}, "skeleton": {".pbm": ".pgm"}, "label": {".pbm": ".pgm"},
+    "distance": {".pbm": ".pgm"},
+}
 _SUFFIXES: dict[Form, str] = {"pnm": ".pgm", "png": ".png", "tiff": ".tif"}
 
 

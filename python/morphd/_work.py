@@ -17,7 +17,10 @@ from ._numbers import real
 from ._plans import Compat
 
 Array = NDArray[Any]
-_COMPUTING = ("gradient", "white_tophat", "black_tophat", "hit_or_miss", "skeleton", "restored")
+_COMPUTING = (
+    "gradient", "white_tophat", "black_tophat", "hit_or_miss", "skeleton", "restored", "clear_border", "hmax", "hmin", "local_maxima",
+    "local_minima",
+)
 
 
 @dataclass(frozen=True)
@@ -58,7 +61,7 @@ def _checked(options: Options) -> Options:
     return replace(options, workers=_threads.worker_count(options.workers))
 
 
-def _planes(array: Array, out: Array, axes: tuple[int, int]) -> Iterator[tuple[Array, Array]]:
+def planes(array: Array, out: Array, axes: tuple[int, int]) -> Iterator[tuple[Array, Array]]:
     """Each plane of an array with the plane of the result."""
     rows, columns = (axis % array.ndim if -array.ndim <= axis < array.ndim else None for axis in axes)
     if rows is None or columns is None or rows == columns:
@@ -76,7 +79,7 @@ def _read(work: Work, array: Array, options: Options) -> _arrays.Reading:
 def _check_samples(work: Work, array: Array, axes: tuple[int, int], options: Options) -> None:
     """Refuses what one of the planes holds before the result of any is written."""
     if _arrays.may_be_refused(array.dtype, options.maxval):
-        for plane, _ in _planes(array, array, axes):
+        for plane, _ in planes(array, array, axes):
             _pieces.check_samples(_read(work, plane, options).field, work.name)
 
 
@@ -99,7 +102,7 @@ def _on_plane(work: Work, array: Array, options: Options, out: Array | None) -> 
 def _empty(work: Work, array: Array, options: Options, made: Array) -> Array:
     """The result of an array without samples. What is wrong with the arguments is found on a plane of one sample."""
     if options.axes is not None:
-        next(_planes(array, made, options.axes), None)
+        next(planes(array, made, options.axes), None)
     _on_plane(work, np.zeros((1, 1), array.dtype), options, None)
     return made
 
@@ -119,6 +122,6 @@ def made_of(work: Work, image: Any, options: Options) -> Array:
     held = array.copy() if out is not None and np.may_share_memory(out, array) else array
     if out is not None:
         _check_samples(work, held, options.axes, options)
-    for plane, target in _planes(held, made, options.axes):
+    for plane, target in planes(held, made, options.axes):
         _on_plane(work, plane, options, target)
     return made

@@ -25,7 +25,7 @@ REFUSALS: dict[int, tuple[str, str]] = {
     41: ("UNKNOWN", "nothing has the name"),
     42: ("KIND", "an image is wanted and this is none, or a footprint is wanted and this is none"),
     43: ("DEAD", "the input is cancelled, out of memory or failed"),
-    44: ("BINARY", "a skeleton is made of a set: of an array of bool"),
+    44: ("BINARY", "a set is wanted: an array of bool, as image >= 120 makes it"),
     45: ("NO_ORIGIN", "the footprint's origin is none of its pixels"),
     46: ("OVERLAP", "the two footprints have a place in common"),
     47: ("PARAM", "a number is outside its limits"),
@@ -34,6 +34,9 @@ REFUSALS: dict[int, tuple[str, str]] = {
     50: ("MEMORY", "there is not enough memory"),
     51: ("RELEASED", "it is released"),
     52: ("PENDING", "it is still pending"),
+    53: ("FRAME", "the two images have other sides"),
+    54: ("LEVELS", "the two images have other maxvals"),
+    55: ("ONE_WAY", "an offset of the footprint has no opposite in it"),
 }
 
 
@@ -43,7 +46,7 @@ class Refused(ValueError):
     Attributes
     ----------
     number : int
-        The refusal's number, as in docs/PROTOCOL.md.
+        The refusal's number, as in docs/PROTOCOL.md; those from 53 on are the library's alone, as in include/morphd.h.
     word : str
         Its word there.
     asked : str

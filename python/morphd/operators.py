@@ -26,7 +26,7 @@ from ._calls import Flat, HitOrMiss, Restoration, Skeleton, Threshold
 from ._docs import COMPUTES, documented
 from ._edges import Mode
 from ._library import RANK
-from ._numbers import real, whole
+from ._numbers import real, whole, word
 from ._plans import Compat
 from ._work import Array, Options, Work, made_of
 from .errors import Refused
@@ -352,14 +352,7 @@ def _ranked(name: str, image: Any, footprint: FootprintLike, number: Callable[[i
     if options.compat is not None and name not in {"scipy": ("rank", "median", "percentile")}.get(options.compat, ("median",)):
         raise ValueError(f"{options.compat} has no {name}")
     b = Footprint(footprint)
-    return made_of(Work(name, lambda _: Flat(RANK, b, _word(number(b.count), name))), image, options)
-
-
-def _word(number: int, name: str) -> int:
-    """A number as an argument of the library, which refuses those outside its limits; what does not fit is refused here."""
-    if not 0 <= number < 1 << 32:
-        raise Refused(47, f"{name} with {number}")
-    return number
+    return made_of(Work(name, lambda _: Flat(RANK, b, word(number(b.count), name))), image, options)
 
 
 @documented(usual="reflect")
@@ -635,7 +628,7 @@ def skeleton(
     array = _arrays.as_array(image, axes)
     if array.dtype != np.bool_:
         raise Refused(44, f"skeleton of an array of {array.dtype}")
-    b, count = Footprint(footprint), _word(whole(levels, "levels"), "skeleton")
+    b, count = Footprint(footprint), word(whole(levels, "levels"), "skeleton")
     return made_of(Work("skeleton", lambda _: Skeleton(b, count), np.uint8), array, Options(axes=axes, out=out, workers=workers))
 
 
@@ -675,5 +668,5 @@ def restored(
     .. [1] %(lantuejoul)s
     .. [2] %(serra)s
     """
-    b, count = Footprint(footprint), _word(whole(levels, "levels"), "restoration")
+    b, count = Footprint(footprint), word(whole(levels, "levels"), "restoration")
     return made_of(Work("restored", lambda _: Restoration(b, count), np.bool_), marks, Options(axes=axes, out=out, workers=workers))

@@ -152,6 +152,98 @@ def spectrum(kind):
     return call
 
 
+def figured(kind, *rest):
+    """An image, the room for its result and an element, whose faults come in this order."""
+    width, height, *rest = rest
+    top, (address, count, *figure, out, out_count) = (1, rest) if kind == "set" else (rest[0], rest[1:])
+    f = image(kind, width, height, top, address, count)
+    unless(out_count == count, 11)
+    return f, element(*figure).offsets, out, out_count
+
+
+def reconstruct(kind):
+    def call(method, *rest):
+        unless(method < 2, 47)
+        sides = 4 if kind == "set" else 5
+        tops = (lambda given: (given[0], given[1], 1, *given[2:])) if kind == "set" else lambda given: given
+        marker, mask = (image(kind, *tops(rest[at:at + sides])) for at in (0, sides))
+        unless(marker[1:3] == mask[1:3], 53)
+        unless(marker.maxval == mask.maxval, 54)
+        *figure, out, out_count = rest[2 * sides:]
+        unless(out_count == len(mask.samples), 11)
+        made = (reference_model.reconstruction, reference_model.reconstruction_by_erosion)[method]
+        put(made(element(*figure).offsets, mask, marker).samples, TYPES[kind], out, out_count)
+    return call
+
+
+def fill(kind):
+    def call(*rest):
+        f, b, out, out_count = figured(kind, *rest)
+        put(reference_model.holes_filled(b, f).samples, TYPES[kind], out, out_count)
+    return call
+
+
+def clear_border(kind):
+    def call(*rest):
+        f, b, out, out_count = figured(kind, *rest)
+        put(reference_model.border_cleared(b, f).samples, TYPES[kind], out, out_count)
+    return call
+
+
+def extrema_h(kind):
+    def call(which, h, *rest):
+        unless(which < 2 and 1 <= h <= 65535, 47)
+        f, b, out, out_count = figured(kind, *rest)
+        made = (reference_model.h_maxima, reference_model.h_minima)[which]
+        put(made(b, h, f).samples, TYPES[kind], out, out_count)
+    return call
+
+
+def extrema_regional(kind):
+    def call(which, *rest):
+        unless(which < 2, 47)
+        f, b, out, out_count = figured(kind, *rest)
+        made = (reference_model.regional_maxima, reference_model.regional_minima)[which]
+        put(made(b, f).samples, ctypes.c_uint8, out, out_count)
+    return call
+
+
+def label_set(*arguments):
+    *rest, components = arguments
+    f, b, out, out_count = figured("set", *rest)
+    unless(reference_model.is_symmetric(b), 55)
+    labels, count = reference_model.labelling(b, f)
+    put(labels, ctypes.c_uint32, out, out_count)
+    put([count], ctypes.c_uint32, components, 1)
+
+
+def regions_set(width, height, address, count, *rest):
+    *figure, out, out_count, components = rest
+    f = image("set", width, height, 1, address, count)
+    b = element(*figure).offsets
+    unless(reference_model.is_symmetric(b), 55)
+    rows = [reference_model.region(places) for places in reference_model.components(b, f)]
+    put([len(rows)], ctypes.c_uint32, components, 1)
+    unless(out_count >= 7 * len(rows), 11)
+    put([number for row in rows for number in row], ctypes.c_uint32, out, 7 * len(rows))
+
+
+def area_set(least, *rest):
+    unless(least >= 1, 47)
+    f, b, out, out_count = figured("set", *rest)
+    unless(reference_model.is_symmetric(b), 55)
+    put(reference_model.large_components(b, least, f).samples, ctypes.c_uint8, out, out_count)
+
+
+def distance_set(metric, top, width, height, address, count, out, out_count):
+    unless(metric < 3 and top >= 1, 47)
+    f = image("set", width, height, 1, address, count)
+    unless(out_count == count, 11)
+    steps = (reference_model.CROSS, reference_model.SQUARE)
+    made = reference_model.squared_distance(top, f) if metric == 2 else reference_model.distance(steps[metric], top, f)
+    put(made, ctypes.c_uint32, out, out_count)
+
+
 BODIES = {
     **{f"morphd_flat_{kind}": flat(kind) for kind in TYPES},
     **{f"morphd_flat_rows_{kind}": flat_rows(kind) for kind in TYPES},
@@ -160,17 +252,40 @@ BODIES = {
     "morphd_skeleton": skeleton,
     **{f"morphd_restore_{kind}": restore(kind) for kind in ("u8", "u16")},
     **{f"morphd_spectrum_{kind}": spectrum(kind) for kind in TYPES},
+    **{f"morphd_reconstruct_{kind}": reconstruct(kind) for kind in TYPES},
+    **{f"morphd_fill_{kind}": fill(kind) for kind in TYPES},
+    **{f"morphd_clear_border_{kind}": clear_border(kind) for kind in TYPES},
+    **{f"morphd_extrema_h_{kind}": extrema_h(kind) for kind in ("u8", "u16")},
+    **{f"morphd_extrema_regional_{kind}": extrema_regional(kind) for kind in ("u8", "u16")},
+    "morphd_label_set": label_set,
+    "morphd_regions_set": regions_set,
+    "morphd_area_set": area_set,
+    "morphd_distance_set": distance_set,
 }
+# Those whose result has samples of the image's type, or of four bytes.
+OF_ITS_TYPE = ("flat", "miss", "reconstruct", "fill", "clear", "extrema_h")
+OF_WORDS = ("label", "regions", "distance")
+
+
+def size_of_result(name, of_image):
+    """How many bytes a sample of a call's result has."""
+    if "spectrum" in name:
+        return 8
+    if any(word in name for word in OF_WORDS):
+        return 4
+    return of_image if any(word in name for word in OF_ITS_TYPE) else 1
 
 
 def arrays(name, arguments):
-    """The first address and the one behind the last of each array that a call is given; the result's is the last."""
+    """The first address and the one behind the last of each array that a call is given; the result's is the last. A number that a
+    call writes beside it is no array."""
     kinds = _library.PROTOTYPES[name]
-    places = [at for at, kind in enumerate(kinds) if kind is ctypes.c_void_p]
+    places = [at for at, kind in enumerate(kinds[:-1]) if kind is ctypes.c_void_p]
     sizes = [1] * len(places)
-    sizes[0] = 2 if name.endswith("u16") else 1
-    sizes[-1] = 8 if "spectrum" in name else sizes[0] if "flat" in name or "miss" in name else 1
-    return [(arguments[at], arguments[at] + size * arguments[at + 1]) for at, size in zip(places, sizes)]
+    for image in range(2 if "reconstruct" in name else 1):
+        sizes[image] = 2 if name.endswith("u16") else 1
+    sizes[-1] = size_of_result(name, sizes[0])
+    return [(arguments[at] or 0, (arguments[at] or 0) + size * arguments[at + 1]) for at, size in zip(places, sizes)]
 
 
 def overlaps(name, arguments):

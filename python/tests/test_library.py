@@ -142,9 +142,9 @@ def test_examples_of_docstrings():
     """Run where NumPy prints as the examples have it."""
     import doctest
 
-    from morphd import curves, footprints, operators
+    from morphd import curves, footprints, geodesics, grains, operators
 
-    for module in (footprints, operators, curves):
+    for module in (footprints, operators, geodesics, grains, curves):
         outcome = doctest.testmod(module)
         assert outcome.failed == 0
     assert outcome.attempted > 0
@@ -154,9 +154,9 @@ def test_every_public_function_tells_its_parameters():
     """As NumPy has them: each parameter stands in the docstring."""
     import inspect
 
-    from morphd import curves, operators
+    from morphd import curves, geodesics, grains, operators
 
-    for module in (operators, curves):
+    for module in (operators, geodesics, grains, curves):
         for name in module.__all__:
             function = getattr(module, name)
             if inspect.isfunction(function):

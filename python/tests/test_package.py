@@ -57,6 +57,14 @@ morphd.openning
 morphd.erosion([[1]], [[1]], mode="mirrored")
 morphd.erosion([[1]], [[1]], compat="matlab")
 number: int = made
+labels, count = morphd.label([[True]], return_num=True)
+count = morphd.label([[True]])
+morphd.distance([[True]], "taxicab")
+morphd.reconstruction([[1]], [[1]], "opening")
+grains = morphd.regions([[True]], pixel="2um")
+mean: float = grains.inside.summary("area").area_mean + grains[0].feret_max + grains["area"].max()
+mean = grains["area"]
+grains.histogram(weights="volume")
 """
 
 
@@ -68,4 +76,4 @@ def test_type_checkers_see_names_and_modes(tmp_path):
     words = [sys.executable, "-m", "mypy", "--strict", "--cache-dir", str(tmp_path / "cache"), "morphd", str(caller)]
     made = subprocess.run(words, cwd=HERE, capture_output=True, text=True, check=False)
     told = [line.removeprefix(f"{caller}:").partition(":") for line in made.stdout.splitlines()[:-1]]
-    assert [number for number, _, _ in told] == ["4", "5", "6", "7"], made.stdout + made.stderr
+    assert [number for number, _, _ in told] == ["4", "5", "6", "7", "9", "10", "11", "14", "15"], made.stdout + made.stderr

@@ -17,7 +17,7 @@ use Rattle.mw_geodesic.proofs.Duality.{dual}
 use Rattle.mw_geodesic.proofs.Reconstructed.{rebuilt_shape, rebuilt_size, rebuilt_within, rebuilt_above, rebuilt_within_itself}
 
 -- what stands at a place of it
-sample-border_over : (value : ℕ) (f : Picture) (x y : ℕ) → x < f.width → y < f.height → sample (border_over value f) x y ≡ (if at_border f x y then sample f x y else value)
+pub sample-border_over : (value : ℕ) (f : Picture) (x y : ℕ) → x < f.width → y < f.height → sample (border_over value f) x y ≡ (if at_border f x y then sample f x y else value)
 sample-border_over value f x y p q = sample-redrawn f (λ x y. if at_border f x y then sample f x y else value) x y p q
 
 pub border_bounded : (value : ℕ) (f : Picture) → IsPicture f → value ≤ f.maxval → (x y : ℕ) → x < f.width → y < f.height → (if at_border f x y then sample f x y else value) ≤ f.maxval

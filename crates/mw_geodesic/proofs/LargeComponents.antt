@@ -57,7 +57,7 @@ large_below e a f x y p q =
       | no none is_none ↦ omega arith
     ]
 
-component_shape : (e : List Offset) (f : Picture) (x y : ℕ) → SameShape (component e f x y) f
+pub component_shape : (e : List Offset) (f : Picture) (x y : ℕ) → SameShape (component e f x y) f
 component_shape e f x y = shape_trans (rebuilt_shape e f (point f x y)) (record { kind = refl; width = refl; height = refl; maxval = refl })
 
 points_below : (f g : Picture) (u v : ℕ) → SameShape f g → Below (point f u v) (point g u v)

@@ -1,9 +1,9 @@
 //! Geodesic operators (Soille; Vincent; Serra): reconstruction and what follows from it, the components of a set with
 //! their labels and areas, and distances. `specs` has the definitions, `laws` and `examples` what holds of them. The
-//! programs are slow ones, whose contracts are the definitions, so that fast bodies can be compared with them. There is
-//! none yet for regions, area openings and closings of grey images, and distances. No command has these operators, so
-//! nobody calls this crate but tests and the kernels that are to come. It knows of images and elements alone, and of no
-//! tile, window or machine.
+//! programs are plain ones, whose contracts are the definitions: tests compare fast bodies with them, and what C calls takes
+//! them for elements that have no kernel. There is none for regions, area openings and closings of grey images, and
+//! distances. The kernels stand in the crates whose names begin as this one's. No command of a session has these operators.
+//! The crate knows of images and elements alone, and of no tile, window or machine.
 //!
 //! What makes an image takes the allocator first, then the image, and last the element that tells what hangs together:
 //!

@@ -16,8 +16,8 @@ use Rattle.mw_geodesic_runs.specs.Gathering.{no_region, AreGathered}
 use Rattle.mw_geodesic_runs.specs.Regions.{AreRegionsOf}
 use Rattle.mw_geodesic_runs.proofs.Told.{are_regions}
 use Rattle.mw_geodesic_kept.specs.Keeping.{mark_of, AreMarkedLarge, IsKeptPart}
-use Rattle.mw_geodesic_kept.proofs.Counted.{yes, no, sample-large, area_of_label}
-use Rattle.mw_geodesic_kept.proofs.Counted as large
+use Rattle.mw_geodesic.proofs.LargeComponents.{yes, no, sample-large, area_of_label}
+use Rattle.mw_geodesic.proofs.LargeComponents as large
 use Rattle.mw_geodesic_kept.proofs.Kept.{run_place, run_sample}
 
 abbrev areas_of : List Region → List ℕ

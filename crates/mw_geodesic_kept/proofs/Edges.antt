@@ -10,6 +10,7 @@ use Rattle.mw_model.proofs.ImageLaws.{drawn_picture}
 use Rattle.mw_geodesic.specs.Neighbours.{IsPlace}
 use Rattle.mw_geodesic.specs.Geodesics.{reconstruction}
 use Rattle.mw_geodesic.specs.Reconstructions.{at_border, border_over, border_cleared, holes_filled}
+use Rattle.mw_geodesic.proofs.Borders.{sample-border_over, border_picture}
 use Rattle.mw_geodesic_runs.specs.declared.runs.Run.{Run}
 use Rattle.mw_geodesic_runs.specs.Runs.{run_numbered}
 use Rattle.mw_geodesic_runs.specs.Components.{AreComponents}
@@ -20,9 +21,6 @@ use Rattle.mw_geodesic_kept.proofs.Marking.{marked_as}
 use Rattle.mw_geodesic_kept.proofs.Rebuilt.{met_part}
 
 -- ---- what stands at the border
-
-sample-over : (f : Picture) (x y : ℕ) → x < f.width → y < f.height → sample (border_over 0 f) x y ≡ (if at_border f x y then sample f x y else 0)
-sample-over f x y p q = sample-redrawn f (λ x y. if at_border f x y then sample f x y else 0) x y p q
 
 any_of : (a b c d : Bool) → (a ≡ true) ⊎ ((b ≡ true) ⊎ ((c ≡ true) ⊎ (d ≡ true))) → (a || b || c || d) ≡ true
 any_of true b c d e = refl
@@ -76,7 +74,7 @@ pixel_at f r x run from to out =
       at = x;
       from = from;
       to = to;
-      is = sample-over f x r.row column run.row ∙ rw (border_from f x r.row out) (run.run.inside x from to);
+      is = sample-border_over 0 f x r.row column run.row ∙ rw (border_from f x r.row out) (run.run.inside x from to);
     }
 
 edge_pixel : (f : Picture) (r : Run) → IsFrameRun f r → IsAtEdge f.width f.height r → HasPixelOf (border_over 0 f) r
@@ -95,7 +93,7 @@ pixel_edge f r run pixel =
     let from = pixel.from in
     let to = pixel.to in
     let one = pixel.is in
-    let is = sample-over f x r.row (omega arith) run.row in
+    let is = sample-border_over 0 f x r.row (omega arith) run.row in
     elim (cases_Bool (at_border f x r.row)) [
       | inr inner ↦
           let none : sample (border_over 0 f) x r.row ≡ 0 = is ∙ rw inner refl in
@@ -113,15 +111,6 @@ pixel_edge f r run pixel =
     ]
 
 -- ---- what touches the border, and what does not
-
-border_bounded : (value : ℕ) (f : Picture) → IsPicture f → value ≤ f.maxval → (x y : ℕ) → x < f.width → y < f.height → (if at_border f x y then sample f x y else value) ≤ f.maxval
-border_bounded value f picture low x y p q = elim (cases_Bool (at_border f x y)) [
-  | inl edge ↦ rw edge (sample_bounded f picture x y p q)
-  | inr inner ↦ rw inner low
-]
-
-pub border_picture : (value : ℕ) (f : Picture) → IsPicture f → value ≤ f.maxval → IsPicture (border_over value f)
-border_picture value f picture low = drawn_picture f.kind f.width f.height f.maxval (λ x y. if at_border f x y then sample f x y else value) (border_bounded value f picture low)
 
 border_set : (f : Picture) → IsSet f → IsSet (border_over 0 f)
 border_set f is_set = record { picture = border_picture 0 f is_set.picture (omega arith); kind = is_set.kind; maxval = is_set.maxval }

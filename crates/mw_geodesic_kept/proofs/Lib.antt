@@ -1,6 +1,5 @@
 -- the crate's own
 mod Areas
-mod Counted
 mod Edges
 mod Flips
 mod Kept

@@ -1,6 +1,8 @@
+-- what other crates may cite
+pub mod Nearness
 -- the crate's own
-mod Nearness
+mod Blocks
 mod Raises
 mod Rebuilt
 mod Rooms
-mod Waits
+mod Turned

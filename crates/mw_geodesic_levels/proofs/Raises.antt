@@ -1,5 +1,5 @@
 -- How images are raised.
-use Rattle.std.proofs.Common.{◌≡◌, ℕ, ◌+◌, ◌-◌, ◌*◌, ◌<◌, ◌≤◌, ◌⊎◌, List, length, get_or, set, map, min, max, ap, sym, subst, arith, ◌∙◌, inl, inr}
+use Rattle.std.proofs.Common.{◌≡◌, ℕ, ◌+◌, ◌-◌, ◌*◌, ◌<◌, ◌≤◌, ◌⊎◌, Bool, true, List, length, get_or, set, map, min, max, ap, sym, subst, arith, ◌∙◌, inl, inr}
 use Rattle.std.proofs.lemmas.Bool.{cases_lt, cases_eq, cases_order}
 use Rattle.std.proofs.lemmas.List.{get_or-map, get_or-set_same, get_or-set_other, map-set, length-map}
 use Rattle.std.proofs.lemmas.Nat.{mul-add-lt}
@@ -220,3 +220,15 @@ still_along frame mask f y v far nears small straight beside x p u across near =
 
     right : (x u : ℕ) → u ≡ x + 1 → IsStillTo frame mask f x y (x + 1) v → IsStillTo frame mask f x y u v
     right x u e low = rw e low
+
+-- ---- near
+
+-- a place of another column is near, where it is in the same row or corners count
+pub near_across : {corners : Bool} {x y u v : ℕ} → x ≤ u + 1 → u ≤ x + 1 → y ≤ v + 1 → v ≤ y + 1 → (corners ≡ true) ⊎ (y ≡ v) → IsNearby corners x y u v
+near_across left right above below across = record {
+  left = left;
+  right = right;
+  above = above;
+  below = below;
+  across = elim across [ inl corner ↦ inl corner | inr same ↦ inr (inr (sym same)) ];
+}

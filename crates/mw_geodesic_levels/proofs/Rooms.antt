@@ -32,12 +32,11 @@ room_less mask f g (suc n) i s lt more masked put =
 pub risen : {frame : Frame} {mask f g : ℕ → ℕ} {i s : ℕ} → CanRise frame mask f i s → IsPut s i f g → IsRaised frame mask f g
 risen {frame} {mask} {f} {g} {i} {s} can put = let more = can.more in put_raised i s (omega arith) can.allowed put
 
--- and then all by sweeps
-pub settled_more : {frame : Frame} {mask f g h k : ℕ → ℕ} {i s : ℕ} → CanRise frame mask f i s → IsPut s i f g → IsRaised frame mask g h → IsRaised frame mask h k → room mask k (frame.height * frame.width) < room mask f (frame.height * frame.width)
-settled_more {frame} {mask} {f} {g} {h} {k} {i} {s} can put first second =
+-- and then all
+pub settled_more : {frame : Frame} {mask f g h : ℕ → ℕ} {i s : ℕ} → CanRise frame mask f i s → IsPut s i f g → IsRaised frame mask g h → room mask h (frame.height * frame.width) < room mask f (frame.height * frame.width)
+settled_more {frame} {mask} {f} {g} {h} {i} {s} can put raised =
     let less = room_less mask f g (frame.height * frame.width) i s can.inside can.more can.masked put in
-    let one = room_no_more mask g h (frame.height * frame.width) first.over in
-    let two = room_no_more mask h k (frame.height * frame.width) second.over in
+    let more = room_no_more mask g h (frame.height * frame.width) raised.over in
     omega arith
 
 -- ---- floods

@@ -1,3 +1,3 @@
 pub mod Levels
 pub mod Pictures
-pub mod Waiting
+pub mod Runs

@@ -4,7 +4,7 @@ ghost use Rattle.std.specs.Prelude.{◌≡◌, ◌+◌, ◌*◌, ◌<◌};
 
 /// The sides of an image, and whether places that touch at a corner are neighbours.
 #[derive(Clone, Copy, Debug)]
-pub(crate) struct Frame {
+pub struct Frame {
     pub width: u32,
     pub height: u32,
     pub corners: bool,
@@ -12,7 +12,7 @@ pub(crate) struct Frame {
 
 /// A place, by its column and its row.
 #[derive(Clone, Copy, Debug)]
-pub(crate) struct Place {
+pub struct Place {
     pub x: u32,
     pub y: u32,
 }
@@ -27,5 +27,18 @@ impl Frame {
         ensures within { result < self.height * self.width }
     {
         y as usize * self.width as usize + x as usize
+    }
+
+    /// The place with a number.
+    #[inline(always)]
+    pub fn place(self, number: u32) -> Place
+        requires { number < self.height * self.width }
+        ensures column { result.x < self.width }
+        ensures row { result.y < self.height }
+    {
+        Place {
+            x: number % self.width,
+            y: number / self.width,
+        }
     }
 }

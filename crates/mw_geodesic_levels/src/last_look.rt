@@ -1,13 +1,16 @@
-//! The last look over all places. Where it finds one that can be raised, that is raised, and sweeps follow, until it finds
-//! none. After the queue there is none, but that needs no proof.
+//! The last look over all places. Where it finds one that can be raised, that is raised, and sweeps and the queue follow,
+//! until it finds none. There is one only where places were left out of the queue for want of room.
 
 ghost use Rattle.std.specs.Prelude.{◌≡◌, ℕ, ◌+◌, ◌*◌, ◌<◌, ◌≤◌, length, false, IsNone, IfSome};
 ghost use Rattle.mw_geodesic_levels.specs.Levels.{level_numbered, IsStillTo, IsStillBy, IsStill, IsRaised, CanRise};
 
+use crate::flood::flood;
 use crate::frame::{Frame, Place};
 use crate::near::{above, below, highest, reach};
+use crate::queue::LevelQueue;
 use crate::samples::{at, is_below, lesser, put};
 use crate::sweeps::{sweep_down, sweep_up};
+use crate::waiting::fill;
 use mw_pixel::Pixel;
 
 /// Whether the place in column x of row y would be raised by that in column u of row v.
@@ -214,8 +217,25 @@ fn first_rise<P: Pixel>(samples: &[P], mask: &[P], frame: Frame) -> Option<Rise<
     None
 }
 
+/// Raises by two sweeps, and then from the places that would raise one still.
+pub(crate) fn raise_all<P: Pixel>(
+    samples: &mut [P],
+    queue: &mut LevelQueue,
+    mask: &[P],
+    frame: Frame,
+)
+    requires size { length samples.old ≡ frame.height * frame.width }
+    requires mask { length mask.now ≡ frame.height * frame.width }
+    ensures { IsRaised frame (level_numbered P.level mask.now) (level_numbered P.level samples.old) (level_numbered P.level samples.new) }
+{
+    sweep_down(samples, mask, frame);
+    sweep_up(samples, mask, frame);
+    fill(queue, samples, mask, frame);
+    flood(samples, queue, mask, frame);
+}
+
 /// Raises until no place can be raised.
-pub(crate) fn settle<P: Pixel>(samples: &mut [P], mask: &[P], frame: Frame)
+pub(crate) fn settle<P: Pixel>(samples: &mut [P], queue: &mut LevelQueue, mask: &[P], frame: Frame)
     requires size { length samples.old ≡ frame.height * frame.width }
     requires mask { length mask.now ≡ frame.height * frame.width }
     ensures raised { IsRaised frame (level_numbered P.level mask.now) (level_numbered P.level samples.old) (level_numbered P.level samples.new) }
@@ -223,7 +243,6 @@ pub(crate) fn settle<P: Pixel>(samples: &mut [P], mask: &[P], frame: Frame)
 {
     while let Some(rise) = first_rise(samples, mask, frame) {
         put(samples, rise.number, rise.sample);
-        sweep_down(samples, mask, frame);
-        sweep_up(samples, mask, frame);
+        raise_all(samples, queue, mask, frame);
     }
 }

@@ -1,6 +1,7 @@
 //! Reconstruction by dilation of grey images, after Vincent (Morphological Grayscale Reconstruction in Image Analysis,
 //! 1993): two sweeps over the rows, and then a queue, here one by levels, from which the highest are taken first, so that
-//! few places are raised more than once. A last look finds whether any place is left that can be raised.
+//! few places are raised more than once. A last look finds whether any place is left that can be raised, and then all that is
+//! done once more: the queue has room for one place per two pixels, and leaves out those for which there is none.
 //!
 //! Every step raises a sample at most to what one near it has, within the mask. That alone is proved of the sweeps and the
 //! queue: the image stays under each image that cannot be raised, and so under the reconstruction. What the last look says
@@ -18,6 +19,7 @@ mod near;
 mod neighbours;
 mod queue;
 mod rebuilding;
+mod runs;
 mod samples;
 mod sweeps;
 mod waiting;
@@ -25,3 +27,11 @@ mod waiting;
 pub use mw_geodesic::Neighbours;
 pub use mw_model::NoMemory;
 pub use rebuilding::reconstruction;
+
+// What the crates above take of frames, neighbours and samples.
+pub mod found {
+    pub use crate::frame::{Frame, Place};
+    pub use crate::near::{above, below, reach};
+    pub use crate::neighbours::corners;
+    pub use crate::samples::{at, put};
+}

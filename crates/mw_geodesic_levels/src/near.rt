@@ -9,7 +9,7 @@ use mw_pixel::Pixel;
 
 /// How many columns to both sides the places of row v are near one of row y: one, or none.
 #[inline(always)]
-pub(crate) fn reach(frame: Frame, y: u32, v: u32) -> u32
+pub fn reach(frame: Frame, y: u32, v: u32) -> u32
     ensures small { result ≤ 1 }
     ensures near { (x u : ℕ) → IsNearby frame.corners x y u v → (x ≤ u + result) × (u ≤ x + result) }
     ensures back { y ≤ v + 1 → v ≤ y + 1 → (x u : ℕ) → x ≤ u + result → u ≤ x + result → IsNearby frame.corners x y u v }
@@ -25,7 +25,7 @@ pub(crate) fn reach(frame: Frame, y: u32, v: u32) -> u32
 
 /// The row above, or the first one.
 #[inline(always)]
-pub(crate) fn above(y: u32) -> u32
+pub fn above(y: u32) -> u32
     ensures near { y ≤ result + 1 }
     ensures within { result ≤ y }
     ensures each { (v : ℕ) → y ≤ v + 1 → v < y → v ≡ result }
@@ -35,7 +35,7 @@ pub(crate) fn above(y: u32) -> u32
 
 /// The row below, or the last one.
 #[inline(always)]
-pub(crate) fn below(frame: Frame, y: u32) -> u32
+pub fn below(frame: Frame, y: u32) -> u32
     requires { y < frame.height }
     ensures near { result ≤ y + 1 }
     ensures within { y ≤ result }

@@ -7,7 +7,7 @@ ghost use Rattle.mw_geodesic_levels.specs.Pictures.{element_with_corners};
 use mw_geodesic::Neighbours;
 
 /// Whether places that touch at a corner are neighbours.
-pub(crate) fn corners(neighbours: Neighbours) -> bool
+pub fn corners(neighbours: Neighbours) -> bool
     ensures { element_with_corners result ≡ neighbours_of neighbours }
 {
     match neighbours {

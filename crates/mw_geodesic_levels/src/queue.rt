@@ -1,87 +1,141 @@
 //! Places that wait, by the levels of their samples. The highest are taken first; of one level that which came last.
+//!
+//! All memory is asked for at once: a head for each level, and entries, which are used again once their places are taken.
+//! So no place waits for memory. One for which there is no room is left out, and the last look finds what it would raise.
 
-ghost use Rattle.std.specs.Prelude.{◌≡◌, ◌+◌, ◌<◌, ◌≤◌, vec_len, IsSome, OnOk};
-ghost use Rattle.mw_geodesic_levels.specs.Waiting.{waiting};
+ghost use Rattle.std.specs.Prelude.{◌≡◌, ◌+◌, ◌<◌, ◌≤◌, vec_len, IsSome};
 
-use crate::frame::Place;
 use mw_model::NoMemory;
 use std::alloc::Global;
 use std::marker::Model;
 
-/// A list of places for each level. Contracts see how many places wait.
+/// No entry.
+const NONE: u32 = u32::MAX;
+
+/// A place that waits, by its number, and the entry behind it in its list.
+#[derive(Clone, Copy, Debug)]
+struct Entry {
+    place: u32,
+    behind: u32,
+}
+
+/// A place that was taken, by its number, and the level at which it waited.
+#[derive(Clone, Copy, Debug)]
+pub(crate) struct Taken {
+    pub place: u32,
+    pub level: usize,
+}
+
+/// A list of entries for each level. Contracts see how many places wait.
 #[derive(Drop)]
 pub(crate) struct LevelQueue {
-    lists: Vec<Vec<Place>>,
+    heads: Vec<u32>,
+    entries: Vec<Entry>,
+    free: u32,
+    limit: usize,
+    room: usize,
     top: usize,
 }
 
 impl Model for LevelQueue {
-    ghost use Rattle.std.specs.Prelude.{ℕ, ◌≤◌, vec_len};
-    ghost use Rattle.mw_geodesic_levels.specs.Waiting.{waiting};
+    ghost use Rattle.std.specs.Prelude.{ℕ, ◌-◌, ◌≤◌, vec_len};
 
     ghost Value = { ℕ };
 
-    ghost view = { λ a. waiting a.lists.items };
+    ghost view = { λ a. a.limit - a.room };
 
-    ghost invariant = { λ a. a.top ≤ vec_len a.lists };
+    ghost invariant = { λ a. (a.top ≤ vec_len a.heads) × (a.room ≤ a.limit) };
 }
 
 impl LevelQueue {
-    /// The queue for so many levels, in which no place waits.
-    pub fn new(alloc: Global, count: usize) -> Result<LevelQueue, NoMemory> {
-        let mut lists = Vec::with_capacity(alloc, count)?;
-        for _level in 0..count {
-            lists.push(Vec::new(alloc))?;
-        }
-        Ok(LevelQueue { lists, top: 0 })
+    /// The queue for levels below a count and so many places, in which no place waits.
+    pub fn new(alloc: Global, levels: usize, limit: usize) -> Result<LevelQueue, NoMemory> {
+        let heads = vec![in alloc; NONE; levels]?;
+        let entries = Vec::with_capacity(alloc, limit)?;
+        Ok(LevelQueue {
+            heads,
+            entries,
+            free: NONE,
+            limit,
+            room: limit,
+            top: 0,
+        })
     }
 
-    /// Lets a place wait at a level.
+    /// Lets the place with a number wait at a level, if there is room.
     #[inline(always)]
-    pub fn push(&mut self, level: u16, place: Place) -> Result<(), NoMemory>
-        ensures { OnOk result (self.new ≤ self.old + 1) }
+    pub fn push(&mut self, level: u16, number: usize)
+        ensures { self.new ≤ self.old + 1 }
     {
         let level = usize::from(level);
-        if level < self.lists.len() {
-            push_at(&mut self.lists, level, place)?;
+        if self.room > 0 && level < self.heads.len() && number <= u32::MAX as usize {
+            let entry = Entry {
+                place: number as u32,
+                behind: self.heads[level],
+            };
+            self.heads[level] = keep(&mut self.entries, &mut self.free, entry);
+            self.room -= 1;
             self.top = self.top.max(level + 1);
         }
-        Ok(())
     }
 
     /// Takes a place of the highest level at which any waits.
     #[inline(always)]
-    pub fn pop(&mut self) -> Option<Place>
+    pub fn pop(&mut self) -> Option<Taken>
         ensures { IsSome result → self.new < self.old }
     {
-        while self.top > 0 {
-            if let Some(place) = pop_at(&mut self.lists, self.top - 1) {
-                return Some(place);
+        while self.top > 0 && self.room < self.limit {
+            let level = self.top - 1;
+            if let Some(place) = take_from(
+                &mut self.heads,
+                level,
+                &mut self.entries,
+                &mut self.free,
+            ) {
+                self.room += 1;
+                return Some(Taken { place, level });
             }
-            self.top -= 1;
+            self.top = level;
         }
         None
     }
 }
 
-/// Adds a place to a list.
+/// Puts an entry where one is free, or behind the last one, and tells where it stands.
 #[inline(always)]
-fn push_at(lists: &mut Vec<Vec<Place>>, i: usize, place: Place) -> Result<(), NoMemory>
-    requires { i < vec_len lists.old }
-    ensures size { vec_len lists.new ≡ vec_len lists.old }
-    ensures more { OnOk result (waiting lists.new.items ≤ waiting lists.old.items + 1) }
-{
-    lists[i].push(place)?;
-    Ok(())
+fn keep(entries: &mut Vec<Entry>, free: &mut u32, entry: Entry) -> u32 {
+    let at = *free;
+    if (at as usize) < entries.len() {
+        *free = entries[at as usize].behind;
+        entries[at as usize] = entry;
+        return at;
+    }
+    let last = entries.len();
+    if last < entries.capacity().min(NONE as usize) {
+        entries.push_reserved(entry);
+        return last as u32;
+    }
+    NONE
 }
 
-/// Takes the last place of a list.
+/// Takes the first place of the list of a level.
 #[inline(always)]
-fn pop_at(lists: &mut Vec<Vec<Place>>, i: usize) -> Option<Place>
-    requires { i < vec_len lists.old }
-    ensures size { vec_len lists.new ≡ vec_len lists.old }
-    ensures no_more { waiting lists.new.items ≤ waiting lists.old.items }
-    ensures less { IsSome result → waiting lists.new.items < waiting lists.old.items }
+fn take_from(
+    heads: &mut Vec<u32>,
+    level: usize,
+    entries: &mut Vec<Entry>,
+    free: &mut u32,
+) -> Option<u32>
+    requires { level < vec_len heads.old }
+    ensures { vec_len heads.new ≡ vec_len heads.old }
 {
-    lists[i].pop()
+    let at = heads[level];
+    if at as usize >= entries.len() {
+        return None;
+    }
+    let entry = entries[at as usize];
+    heads[level] = entry.behind;
+    entries[at as usize].behind = *free;
+    *free = at;
+    Some(entry.place)
 }

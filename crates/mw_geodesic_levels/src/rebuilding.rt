@@ -6,18 +6,18 @@ ghost use Rattle.mw_geodesic_levels.specs.Levels.{level_numbered, IsRebuilt};
 ghost use Rattle.mw_geodesic.specs.Neighbours.{neighbours_of};
 ghost use Rattle.mw_geodesic_levels.specs.Pictures.{picture_by};
 
-use crate::flood::flood;
 use crate::frame::Frame;
-use crate::last_look::settle;
+use crate::last_look::{raise_all, settle};
 use crate::neighbours::corners;
 use crate::queue::LevelQueue;
-use crate::samples::{at, lesser, put};
-use crate::sweeps::{sweep_down, sweep_up};
-use crate::waiting::fill;
+use crate::samples::{at, greater, lesser, put};
 use mw_geodesic::Neighbours;
 use mw_model::NoMemory;
-use mw_pixel::{Grey, Pixel, Plane, copies};
+use mw_pixel::{Grey, Pixel, Plane};
 use std::alloc::Global;
+
+/// For so many pixels there is room for one place that waits.
+const PIXELS_AN_ENTRY: usize = 2;
 
 /// Cuts samples to those of the mask.
 fn cut<P: Pixel>(samples: &mut [P], mask: &[P])
@@ -30,27 +30,51 @@ fn cut<P: Pixel>(samples: &mut [P], mask: &[P])
     }
 }
 
-/// Lets the places wait that would raise one near them.
-fn fill_anew<P: Pixel>(
+/// The greatest level of the samples, or 0 of none.
+fn greatest<P: Pixel>(samples: &[P]) -> u16 {
+    if samples.is_empty() {
+        return 0;
+    }
+    let mut most = samples[0];
+    for i in 1..samples.len() {
+        most = greater(most, samples[i]);
+    }
+    most.value()
+}
+
+/// Makes the reconstruction of the marker that the samples are, row by row.
+fn rebuild_rows<P: Pixel>(
     alloc: Global,
-    queue: &mut LevelQueue,
-    samples: &[P],
+    samples: &mut [P],
     mask: &[P],
     frame: Frame,
 ) -> Result<(), NoMemory>
-    requires size { length samples.now ≡ frame.height * frame.width }
+    requires size { length samples.old ≡ frame.height * frame.width }
     requires mask { length mask.now ≡ frame.height * frame.width }
+    ensures { OnOk result (IsRebuilt frame (level_numbered P.level mask.now) (level_numbered P.level samples.old) (level_numbered P.level samples.new)) }
 {
-    let mut least = copies(alloc, frame.width as usize, P::TOP)?;
-    let mut openings = copies(alloc, frame.width as usize, P::TOP)?;
-    fill(
-        queue,
-        least.as_mut_slice(),
-        openings.as_mut_slice(),
-        samples,
-        mask,
-        frame,
-    )
+    cut(samples, mask);
+    let levels = usize::from(greatest(samples)) + 1;
+    let mut queue = LevelQueue::new(alloc, levels, samples.len() / PIXELS_AN_ENTRY)?;
+    raise_all(samples, &mut queue, mask, frame);
+    settle(samples, &mut queue, mask, frame);
+    Ok(())
+}
+
+/// The frame, or one row in the place of one column: its places have the same numbers and neighbours, and those of a long row
+/// are raised many at once.
+fn turned(frame: Frame) -> Frame
+    ensures size { result.height * result.width ≡ frame.height * frame.width }
+    ensures same { (mask marker g : ℕ → ℕ) → IsRebuilt result mask marker g → IsRebuilt frame mask marker g }
+{
+    if frame.width == 1 {
+        return Frame {
+            width: frame.height,
+            height: 1,
+            corners: frame.corners,
+        };
+    }
+    frame
 }
 
 /// Makes the reconstruction of the marker that the samples are.
@@ -64,18 +88,12 @@ fn rebuild<P: Pixel>(
     requires mask { length mask.now ≡ frame.height * frame.width }
     ensures { OnOk result (IsRebuilt frame (level_numbered P.level mask.now) (level_numbered P.level samples.old) (level_numbered P.level samples.new)) }
 {
-    cut(samples, mask);
-    sweep_down(samples, mask, frame);
-    sweep_up(samples, mask, frame);
-    let mut queue = LevelQueue::new(alloc, usize::from(P::TOP.value()) + 1)?;
-    fill_anew(alloc, &mut queue, samples, mask, frame)?;
-    flood(samples, &mut queue, mask, frame)?;
-    settle(samples, mask, frame);
+    rebuild_rows(alloc, samples, mask, turned(frame))?;
     Ok(())
 }
 
-/// The reconstruction of a mask from a marker of its size, by dilation. It may want memory (`NoMemory`): for the result, for
-/// a list for each level, and for the places that wait.
+/// The reconstruction of a mask from a marker of its size, by dilation. It may want memory (`NoMemory`), before it begins:
+/// for the result, four bytes for each level up to the greatest of the marker and of the mask, and four for each pixel.
 pub fn reconstruction<P: Grey>(
     alloc: Global,
     marker: &Plane<P>,

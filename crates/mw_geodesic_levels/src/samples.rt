@@ -31,7 +31,7 @@ pub(crate) fn is_below<P: Pixel>(a: P, b: P) -> bool
 
 /// The sample with a number.
 #[inline(always)]
-pub(crate) fn at<P: Pixel>(samples: &[P], i: usize) -> P
+pub fn at<P: Pixel>(samples: &[P], i: usize) -> P
     requires { i < length samples.now }
     ensures { P.level result ≡ level_numbered P.level samples.now i }
 {
@@ -40,7 +40,7 @@ pub(crate) fn at<P: Pixel>(samples: &[P], i: usize) -> P
 
 /// Sets the sample with a number.
 #[inline(always)]
-pub(crate) fn put<P: Pixel>(samples: &mut [P], i: usize, s: P)
+pub fn put<P: Pixel>(samples: &mut [P], i: usize, s: P)
     requires { i < length samples.old }
     ensures { IsPut (P.level s) i (level_numbered P.level samples.old) (level_numbered P.level samples.new) }
 {

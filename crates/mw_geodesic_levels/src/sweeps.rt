@@ -5,6 +5,7 @@ ghost use Rattle.mw_geodesic_levels.specs.Levels.{level_numbered, IsNearby, IsPu
 
 use crate::frame::{Frame, Place};
 use crate::near::{above, below};
+use crate::runs::{run_left, run_right};
 use crate::samples::{at, greater, lesser, put};
 use mw_pixel::Pixel;
 
@@ -23,7 +24,7 @@ fn raise<P: Pixel>(samples: &mut [P], mask: &[P], i: usize, s: P) -> P
 
 /// Raises the sample of a place to that of one near it, within the mask.
 #[inline(always)]
-fn pull<P: Pixel>(samples: &mut [P], mask: &[P], frame: Frame, p: Place, q: Place)
+pub(crate) fn pull<P: Pixel>(samples: &mut [P], mask: &[P], frame: Frame, p: Place, q: Place)
     requires size { length samples.old ≡ frame.height * frame.width }
     requires mask { length mask.now ≡ frame.height * frame.width }
     requires column { p.x < frame.width }
@@ -38,6 +39,7 @@ fn pull<P: Pixel>(samples: &mut [P], mask: &[P], frame: Frame, p: Place, q: Plac
 }
 
 /// Raises the samples of row y, each to that of its column in row v.
+#[inline(always)]
 fn pull_straight<P: Pixel>(samples: &mut [P], mask: &[P], frame: Frame, y: u32, v: u32)
     requires size { length samples.old ≡ frame.height * frame.width }
     requires mask { length mask.now ≡ frame.height * frame.width }
@@ -53,6 +55,7 @@ fn pull_straight<P: Pixel>(samples: &mut [P], mask: &[P], frame: Frame, y: u32, 
 }
 
 /// Raises the samples of row y, each to that of the column before in row v.
+#[inline(always)]
 fn pull_from_left<P: Pixel>(samples: &mut [P], mask: &[P], frame: Frame, y: u32, v: u32)
     requires size { length samples.old ≡ frame.height * frame.width }
     requires mask { length mask.now ≡ frame.height * frame.width }
@@ -75,6 +78,7 @@ fn pull_from_left<P: Pixel>(samples: &mut [P], mask: &[P], frame: Frame, y: u32,
 }
 
 /// Raises the samples of row y, each to that of the column behind in row v.
+#[inline(always)]
 fn pull_from_right<P: Pixel>(samples: &mut [P], mask: &[P], frame: Frame, y: u32, v: u32)
     requires size { length samples.old ≡ frame.height * frame.width }
     requires mask { length mask.now ≡ frame.height * frame.width }
@@ -96,7 +100,9 @@ fn pull_from_right<P: Pixel>(samples: &mut [P], mask: &[P], frame: Frame, y: u32
     }
 }
 
-/// Raises the samples of row y to those near them in row v.
+/// Raises the samples of row y to those near them in row v. It is not inlined: so the mask is known to lie apart from the
+/// samples, and many go at once.
+#[inline(never)]
 fn lift<P: Pixel>(samples: &mut [P], mask: &[P], frame: Frame, y: u32, v: u32)
     requires size { length samples.old ≡ frame.height * frame.width }
     requires mask { length mask.now ≡ frame.height * frame.width }
@@ -110,38 +116,6 @@ fn lift<P: Pixel>(samples: &mut [P], mask: &[P], frame: Frame, y: u32, v: u32)
     if frame.corners {
         pull_from_left(samples, mask, frame, y, v);
         pull_from_right(samples, mask, frame, y, v);
-    }
-}
-
-/// Raises the samples of row y from the left, each to the one before it.
-fn run_right<P: Pixel>(samples: &mut [P], mask: &[P], frame: Frame, y: u32)
-    requires size { length samples.old ≡ frame.height * frame.width }
-    requires mask { length mask.now ≡ frame.height * frame.width }
-    requires row { y < frame.height }
-    ensures { IsRaised frame (level_numbered P.level mask.now) (level_numbered P.level samples.old) (level_numbered P.level samples.new) }
-{
-    if frame.width == 0 {
-        return;
-    }
-    let mut last = at(samples, frame.number(0, y));
-    for x in 1..frame.width {
-        last = raise(samples, mask, frame.number(x, y), last);
-    }
-}
-
-/// Raises the samples of row y from the right, each to the one behind it.
-fn run_left<P: Pixel>(samples: &mut [P], mask: &[P], frame: Frame, y: u32)
-    requires size { length samples.old ≡ frame.height * frame.width }
-    requires mask { length mask.now ≡ frame.height * frame.width }
-    requires row { y < frame.height }
-    ensures { IsRaised frame (level_numbered P.level mask.now) (level_numbered P.level samples.old) (level_numbered P.level samples.new) }
-{
-    if frame.width == 0 {
-        return;
-    }
-    let mut last = at(samples, frame.number(frame.width - 1, y));
-    for done in 1..frame.width {
-        last = raise(samples, mask, frame.number(frame.width - 1 - done, y), last);
     }
 }
 

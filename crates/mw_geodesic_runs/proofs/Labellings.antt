@@ -44,12 +44,12 @@ are_components n f runs parent numbers count is_set before forest is =
 
 -- ---- the greatest of some numbers
 
-at_most_greatest : (xs : List ℕ) (i : ℕ) → get_or xs i 0 ≤ greatest xs
+pub at_most_greatest : (xs : List ℕ) (i : ℕ) → get_or xs i 0 ≤ greatest xs
 at_most_greatest [] i = omega arith
 at_most_greatest (x ∷ xs) zero = omega arith
 at_most_greatest (x ∷ xs) (suc i) = omega (arith, at_most_greatest xs i)
 
-before_greatest : (xs : List ℕ) (i n : ℕ) → i < n → get_or xs i 0 ≤ greatest (take n xs)
+pub before_greatest : (xs : List ℕ) (i n : ℕ) → i < n → get_or xs i 0 ≤ greatest (take n xs)
 before_greatest xs i zero lt = absurd (omega arith)
 before_greatest [] i (suc n) lt = omega arith
 before_greatest (x ∷ xs) zero (suc n) lt = omega arith
@@ -70,7 +70,7 @@ pub record ShowsNumbers (f : Picture) (runs : List Run) (numbers labels : List �
   pub shown : (i x y : ℕ) → i < length runs → HasPlace (run_numbered runs i) x y → label_at f labels x y ≡ get_or numbers i 0
   pub unshown : (x y : ℕ) → IsPlace f x y → sample f x y ≡ 0 → label_at f labels x y ≡ 0
 
-one_of : (f : Picture) (x y : ℕ) → IsSet f → IsPlace f x y → (sample f x y ≡ 0 → ⊥) → sample f x y ≡ 1
+pub one_of : (f : Picture) (x y : ℕ) → IsSet f → IsPlace f x y → (sample f x y ≡ 0 → ⊥) → sample f x y ≡ 1
 one_of f x y is_set place ne =
     let low = sample_bounded f is_set.picture x y place.column place.row in
     let top = is_set.maxval in
@@ -148,7 +148,7 @@ rises_at e f runs numbers labels count x y are shows place = elim (cases_lt (lab
     below f zero l is two each = absurd (omega arith)
     below f (suc k) l is two each = let le = each k (omega arith) in omega arith
 
-in_frame : (f : Picture) (x y : ℕ) → IsPlace f x y → y * f.width + x < f.height * f.width
+pub in_frame : (f : Picture) (x y : ℕ) → IsPlace f x y → y * f.width + x < f.height * f.width
 in_frame f x y place = omega (arith, mul-add-lt y f.width x f.height place.row place.column, mul_comm f.width f.height)
 
 pub label_most : (e : List Offset) (f : Picture) (runs : List Run) (numbers labels : List ℕ) (count x y : ℕ) → AreComponents e f runs numbers count → ShowsNumbers f runs numbers labels → IsPlace f x y → label_at f labels x y ≤ count

@@ -4,6 +4,7 @@ use Rattle.mw_model.specs.declared.offsets.Offset.{Offset}
 use Rattle.mw_model.specs.Pictures.{Picture}
 use Rattle.mw_geodesic.specs.Neighbours.{IsPlace}
 use Rattle.mw_geodesic.specs.Labels.{IsLabelling, label_at}
+use Rattle.mw_geodesic.specs.Components.{Region as ToldRegion}
 use Rattle.mw_geodesic_runs.specs.declared.regions.Region.{Region}
 
 -- the place has this label
@@ -44,3 +45,7 @@ pub record AreRegionsOf (element : List Offset) (f : Picture) (regions : List Re
   pub labels : List ℕ
   pub labelling : IsLabelling element f (length regions) labels
   pub each : (k : ℕ) (d : Region) → k < length regions → IsRegion f labels (k + 1) (slice_index_or regions k d)
+
+-- the region in natural numbers, as the definition of components tells it
+abbrev pub region_told : Region → ToldRegion
+region_told r = record { x = r.x; y = r.y; area = r.area; left = r.left; top = r.top; right = r.right; bottom = r.bottom }

@@ -1,6 +1,7 @@
 //! Components of a set by its runs (He, Chao and Suzuki 2008) and union-find (Tarjan 1975; halving of paths, van Leeuwen
 //! and van der Weide 1977): labels, how many components there are, and what is told of each. Their contracts are the
-//! definitions of `mw_geodesic`, under the four and the eight neighbours.
+//! definitions of `mw_geodesic`, under the four and the eight neighbours. What is told of each component is what the
+//! definition by reconstructions of points says (`laws`).
 //!
 //! ```text
 //! let Labelled { count, labels } = labels_of(alloc, &set, Neighbours::Eight)?;
@@ -16,6 +17,7 @@
 mod components;
 mod forest;
 mod labels;
+pub mod laws;
 mod neighbours;
 mod numbering;
 mod regions;

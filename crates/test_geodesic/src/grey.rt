@@ -10,7 +10,11 @@ use std::alloc::Global;
 use std::process::Abort;
 use test_images::{has_levels, image, noise, plane_of};
 
-fn plane_in<P: Grey>(rt: &impl Abort, alloc: Global, image: &ReferenceImage) -> Plane<P> {
+pub(crate) fn plane_in<P: Grey>(
+    rt: &impl Abort,
+    alloc: Global,
+    image: &ReferenceImage,
+) -> Plane<P> {
     match plane_of::<P>(alloc, image) {
         Ok(plane) => plane,
         Err(_fault) => panic!(rt; "samples"),

@@ -1,5 +1,6 @@
-//! Labels and regions of sets, and reconstructions of grey images: beside the slow programs, at full size, and after memory was refused. The contracts say what
-//! is made. That it is made wherever there is memory, no contract says.
+//! Labels, regions and distances of sets, sets of whole components, and reconstructions and area openings of grey images:
+//! beside the slow programs, at full size, and after memory was refused; and what C calls of them. The contracts say what is
+//! made. That it is made wherever there is memory, no contract says.
 //!
 //! ```text
 //! rt test     // in this folder; then `make memory` refuses each allocation of the module `memory` in turn
@@ -7,7 +8,15 @@
 #![tactic(auto)]
 
 #[cfg(test)]
+mod areas;
+#[cfg(test)]
 mod beside;
+#[cfg(test)]
+mod calls;
+#[cfg(test)]
+mod derived;
+#[cfg(test)]
+mod distances;
 #[cfg(test)]
 mod full_size;
 #[cfg(test)]

@@ -2,6 +2,8 @@
 //! hands on the pixels that it was given. Some tests are named by the wrong board that they would find. Each has a limit of its own in
 //! seconds, so that a waking that is lost is a failure and no hang.
 //!
+//! The modules `audits`, `options`, `payloads` and `socket` are of servers: what no client can see.
+//!
 //! The module `refused` makes each call once more where it found no memory, so its tests pass whichever allocation is
 //! refused.
 //!
@@ -13,6 +15,8 @@
 #[cfg(test)]
 mod asleep;
 #[cfg(test)]
+mod audits;
+#[cfg(test)]
 mod closing;
 #[cfg(test)]
 mod desk;
@@ -23,12 +27,18 @@ mod loading;
 #[cfg(test)]
 mod many;
 #[cfg(test)]
+mod options;
+#[cfg(test)]
 mod overlap;
+#[cfg(test)]
+mod payloads;
 #[cfg(test)]
 mod refused;
 #[cfg(test)]
 mod scenes;
 #[cfg(test)]
 mod sessions;
+#[cfg(test)]
+mod socket;
 #[cfg(test)]
 mod watch;

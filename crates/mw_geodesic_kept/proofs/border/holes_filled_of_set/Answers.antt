@@ -5,7 +5,8 @@ use Rattle.mw_model.specs.Rasters.{Raster}
 use Rattle.mw_geodesic.specs.Reconstructions.{border_over}
 use Rattle.mw_pixel.specs.Images.{set_of}
 use Rattle.mw_geodesic.specs.Neighbours.{neighbours_of}
-use Rattle.mw_geodesic_kept.proofs.Edges.{border_picture, filled_by_flips}
+use Rattle.mw_geodesic.proofs.Borders.{border_picture}
+use Rattle.mw_geodesic_kept.proofs.Edges.{filled_by_flips}
 use Rattle.mw_geodesic_kept.proofs.border.holes_filled_of_set.Goals as goal
 
 whole : (p : Raster ℕ) → length p.cells ≡ p.height * p.width → All (λ s. s ≤ 1) p.cells → IsPicture (set_of p)

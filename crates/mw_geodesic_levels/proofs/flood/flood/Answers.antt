@@ -3,13 +3,13 @@ use Rattle.mw_geodesic_levels.specs.Levels.{level_numbered}
 use Rattle.mw_geodesic_levels.proofs.Raises.{raised_itself, raised_on}
 use Rattle.mw_geodesic_levels.proofs.flood.flood.Goals as goal
 
-pub loop-q-init : goal.loop-q-init
-loop-q-init g c = raised_itself c.args.frame (level_numbered g.P.Pixel.level c.args.mask.now) (level_numbered g.P.Pixel.level c.args.samples.now)
+pub loop-taken-init : goal.loop-taken-init
+loop-taken-init g c = raised_itself c.args.frame (level_numbered g.P.Pixel.level c.args.mask.now) (level_numbered g.P.Pixel.level c.args.samples.now)
 
-pub loop-q-preserved : goal.loop-q-preserved
-loop-q-preserved g c = raised_on c.loop-q.invariant c.in_ok-offer_around.ensures.raised
+pub loop-taken-preserved : goal.loop-taken-preserved
+loop-taken-preserved g c = raised_on c.loop-taken.invariant c.offer_around.ensures.raised
 
-pub loop-q-smaller : goal.loop-q-smaller
-loop-q-smaller g c =
-    let cheaper = c.in_ok-offer_around.ensures.cheaper in
+pub loop-taken-smaller : goal.loop-taken-smaller
+loop-taken-smaller g c =
+    let cheaper = c.offer_around.ensures.cheaper in
     omega (arith, c.in-Some.ensures refl)

@@ -1,11 +1,12 @@
-use Rattle.std.proofs.Common.{arith}
+use Rattle.std.proofs.Common.{arith, inl, inr, refl}
+use Rattle.mw_geodesic_levels.proofs.Rooms.{flooded_on}
 use Rattle.mw_geodesic_levels.proofs.flood.offer_along.Goals as goal
 
 pub offer-requires-clause-near : goal.offer-requires-clause-near
-offer-requires-clause-near g c = c.reach-far.ensures.back c.requires.down c.requires.up c.saturating_sub-left.result c.args.q.x (omega (arith, c.saturating_sub-left.ensures)) (omega (arith, c.saturating_sub-left.ensures))
+offer-requires-clause-near g c = record { left = omega arith; right = omega arith; above = c.requires.down; below = c.requires.up; across = inr (inl refl) }
 
-pub offer-requires-2-clause-near : goal.offer-requires-2-clause-near
-offer-requires-2-clause-near g c = c.reach-far.ensures.back c.requires.down c.requires.up c.args.q.x c.args.q.x (omega arith) (omega arith)
+pub offer_beside-requires-clause-across : goal.offer_beside-requires-clause-across
+offer_beside-requires-clause-across g c = inl c.if-frame.true
 
-pub offer-requires-3-clause-near : goal.offer-requires-3-clause-near
-offer-requires-3-clause-near g c = c.reach-far.ensures.back c.requires.down c.requires.up c.min-right.result c.args.q.x (omega (arith, c.min-right.ensures)) (omega (arith, c.min-right.ensures))
+pub returns-then-frame : goal.returns-then-frame
+returns-then-frame g c = flooded_on c.offer.ensures c.offer_beside.ensures

@@ -8,10 +8,10 @@ pub loop-rise-init : goal.loop-rise-init
 loop-rise-init g c = raised_itself c.args.frame (level_numbered g.P.Pixel.level c.args.mask.now) (level_numbered g.P.Pixel.level c.args.samples.now)
 
 pub loop-rise-preserved : goal.loop-rise-preserved
-loop-rise-preserved g c = raised_on c.loop-rise.invariant (raised_on (risen c.in-Some.ensures.some c.put.ensures) (raised_on c.sweep_down.ensures c.sweep_up.ensures))
+loop-rise-preserved g c = raised_on c.loop-rise.invariant (raised_on (risen c.in-Some.ensures.some c.put.ensures) c.raise_all.ensures)
 
 pub loop-rise-smaller : goal.loop-rise-smaller
-loop-rise-smaller g c = settled_more c.in-Some.ensures.some c.put.ensures c.sweep_down.ensures c.sweep_up.ensures
+loop-rise-smaller g c = settled_more c.in-Some.ensures.some c.put.ensures c.raise_all.ensures
 
 pub put-requires : goal.put-requires
 put-requires g c = omega (arith, c.in-Some.ensures.some.inside)

@@ -1,14 +1,14 @@
-use Rattle.std.proofs.Common.{arith, ℕ, min}
+use Rattle.std.proofs.Common.{◌∙◌, sym}
 use Rattle.mw_geodesic_levels.specs.Levels.{level_numbered}
-use Rattle.mw_geodesic_levels.proofs.Raises.{raised_on, raised_from}
 use Rattle.mw_geodesic_levels.proofs.rebuilding.rebuild.Goals as goal
+
+pub rebuild_rows-requires-clause-size : goal.rebuild_rows-requires-clause-size
+rebuild_rows-requires-clause-size g c = c.requires.size ∙ sym c.turned.ensures.size
+
+pub rebuild_rows-requires-clause-mask : goal.rebuild_rows-requires-clause-mask
+rebuild_rows-requires-clause-mask g c = c.requires.mask ∙ sym c.turned.ensures.size
 
 pub returns : goal.returns
 returns g c =
     let level = g.P.Pixel.level in
-    let mask = level_numbered level c.args.mask.now in
-    let marker = level_numbered level c.args.samples.now in
-    record {
-      raised = raised_from (λ (i : ℕ). min (marker i) (mask i)) (λ i lt. c.cut.ensures i (omega arith)) (raised_on c.sweep_down.ensures (raised_on c.sweep_up.ensures (raised_on c.in_ok-flood.ensures c.settle.ensures.raised)));
-      still = c.settle.ensures.still;
-    }
+    c.turned.ensures.same (level_numbered level c.args.mask.now) (level_numbered level c.args.samples.now) (level_numbered level c.rebuild_rows.new.samples) c.in_ok-rebuild_rows.ensures

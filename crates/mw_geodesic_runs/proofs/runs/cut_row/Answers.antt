@@ -1,7 +1,7 @@
-use Rattle.std.proofs.Common.{◌≡◌, ◌∙◌, ◌*◌, ◌≤◌, List, length, refl, sym, subst, arith}
+use Rattle.std.proofs.Common.{◌∙◌, ◌*◌, ◌≤◌, List, length, refl, sym, subst, arith}
 use Rattle.mw_pixel.specs.Images.{set_of}
 use Rattle.mw_geodesic_runs.specs.declared.runs.Run.{Run}
-use Rattle.mw_geodesic_runs.proofs.Cuts.{HoldRow, Cutting, NextRun, next_run, cutting_begins, cutting_on, row_done, room_left}
+use Rattle.mw_geodesic_runs.proofs.Cuts.{HoldRow, Cutting, cutting_begins, cutting_on, row_done, room_left}
 use Rattle.mw_geodesic_runs.proofs.runs.cut_row.Goals as goal
 
 pub cuts-init : goal.cuts-init

@@ -1,9 +1,12 @@
-use Rattle.std.proofs.Common.{◌≤◌, vec_len}
-use Rattle.mw_geodesic_levels.specs.Waiting.{waiting}
+use Rattle.std.proofs.Common.{◌≡◌, ◌-◌, ◌≤◌, vec_len}
 use Rattle.mw_geodesic_levels.proofs.queue.LevelQueue.pop.Given as goal
 
 abbrev pub invariant-loop-self : goal.invariant-loop-self
-invariant-loop-self l = record { within : l.self-inside.top ≤ vec_len l.self-inside.lists; no_more : waiting l.self-inside.lists.items ≤ l.fn.self }
+invariant-loop-self l = record {
+  within : l.self-inside.top ≤ vec_len l.self-inside.heads;
+  fits : l.self-inside.room ≤ l.self-inside.limit;
+  same : l.self-inside.limit - l.self-inside.room ≡ l.fn.self;
+}
 
 abbrev pub decreases-loop-self : goal.decreases-loop-self
 decreases-loop-self l = l.self-inside.top

@@ -1,0 +1,10 @@
+pub mod Alike
+pub mod CallFaults
+pub mod Changes
+pub mod DistanceCalls
+pub mod LevelsChanges
+pub mod LevelsFaults
+pub mod Methods
+pub mod Regions
+pub mod Sides
+pub mod Told

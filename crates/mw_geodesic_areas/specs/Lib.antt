@@ -1,0 +1,4 @@
+pub mod Problems
+pub mod Forests
+pub mod Chains
+pub mod Classes

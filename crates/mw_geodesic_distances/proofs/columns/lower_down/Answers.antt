@@ -1,0 +1,33 @@
+use Rattle.std.proofs.Common.{◌≡◌, ◌+◌, ◌-◌, ◌*◌, ◌∙◌, ℕ, List, length, take, drop, length-take, length-drop, refl, sym, ap, subst, arith}
+use borrow.Rule.Slice.PartMut.{put_mid}
+use Rattle.mw_geodesic_distances.specs.Rows.{distance_at, IsLoweredStraight}
+use Rattle.mw_geodesic_distances.specs.Grids.{grid}
+use Rattle.mw_geodesic_distances.proofs.Lists.{row_put, row_part, rows_fit}
+use Rattle.mw_geodesic_distances.proofs.Gaps.{lowered_none, lowered_more, lowered_all}
+use Rattle.mw_geodesic_distances.proofs.columns.lower_down.Goals as goal
+
+pub loop-y-init : goal.loop-y-init
+loop-y-init c = lowered_none c.args.frame (grid c.args.frame.width c.args.numbers.now) (distance_at c.fill.new.row) (λ u lt. c.fill.ensures u (omega (arith, c.requires.other)))
+
+pub loop-y-preserved : goal.loop-y-preserved
+loop-y-preserved c =
+    let frame = c.args.frame in
+    let w = frame.width in
+    let h = frame.height in
+    let y = c.loop-y.y in
+    let xs = c.loop-y.numbers in
+    let made = c.step_straight.new.row in
+    let m = y * w + w - y * w in
+    let row = take m (drop (y * w) xs) in
+    let inside = c.loop-y-test.true in
+    let size : length xs ≡ h * w = omega (arith, c.loop-y.auto.numbers, c.requires.size) in
+    let fits = rows_fit y h w inside in
+    let m-is : m ≡ w = omega arith in
+    let whole : length row ≡ w = omega (arith, length-take m (drop (y * w) xs), length-drop (y * w) xs) in
+    let step = subst (λ (t : ℕ). IsLoweredStraight t (distance_at c.loop-y.other) (distance_at row) (distance_at made)) whole c.step_straight.ensures.step in
+    let put = row_put w h y (y * w) m xs made refl m-is inside size (c.step_straight.auto.row ∙ whole ∙ sym m-is) in
+    lowered_more frame y (grid w c.args.numbers.now) (grid w xs) (grid w (put_mid (y * w) m xs made)) (distance_at c.loop-y.other) (distance_at row) (distance_at made) (distance_at c.step_straight.new.other) inside c.requires.low c.loop-y.invariant
+    (λ x lt. row_part w y (y * w) m xs x refl m-is lt) step put (λ x. ap (λ (t : List ℕ). distance_at t x) c.step_straight.ensures.copy)
+
+pub returns : goal.returns
+returns c = lowered_all c.args.frame c.loop-y.y (grid c.args.frame.width c.args.numbers.now) (grid c.args.frame.width c.loop-y.numbers) (distance_at c.loop-y.other) (omega (arith, c.loop-y-test.false)) c.loop-y.invariant

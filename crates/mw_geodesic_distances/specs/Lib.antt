@@ -1,0 +1,5 @@
+pub mod Metrics
+pub mod Rows
+pub mod Grids
+pub mod Columns
+pub mod Envelopes

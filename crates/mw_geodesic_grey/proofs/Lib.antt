@@ -1,0 +1,6 @@
+-- the crate's own
+mod Duals
+mod Edges
+mod Marked
+mod Passed
+mod Redrawn

@@ -1,9 +1,0 @@
-use Rattle.std.proofs.Common.{◌≡◌, ◌+◌, ◌-◌, ◌*◌}
-use Rattle.mw_geodesic_levels.specs.Levels.{level_numbered, IsRaised}
-use Rattle.mw_geodesic_levels.proofs.sweeps.run_left.Given as goal
-
-abbrev pub invariant-loop-done : goal.invariant-loop-done
-invariant-loop-done g l = record {
-  raised : IsRaised l.frame (level_numbered g.P.Pixel.level l.mask) (level_numbered g.P.Pixel.level l.initial.samples) (level_numbered g.P.Pixel.level l.samples);
-  last : g.P.Pixel.level l.last ≡ level_numbered g.P.Pixel.level l.samples (l.y * l.frame.width + (l.frame.width - l.done));
-}

@@ -1,9 +1,0 @@
-use Rattle.std.proofs.Common.{◌≡◌, ◌+◌, ◌-◌, ◌*◌}
-use Rattle.mw_geodesic_levels.specs.Levels.{level_numbered, IsRaised}
-use Rattle.mw_geodesic_levels.proofs.sweeps.run_right.Given as goal
-
-abbrev pub invariant-loop-x : goal.invariant-loop-x
-invariant-loop-x g l = record {
-  raised : IsRaised l.frame (level_numbered g.P.Pixel.level l.mask) (level_numbered g.P.Pixel.level l.initial.samples) (level_numbered g.P.Pixel.level l.samples);
-  last : g.P.Pixel.level l.last ≡ level_numbered g.P.Pixel.level l.samples (l.y * l.frame.width + (l.x - 1));
-}
