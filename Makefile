@@ -1,5 +1,5 @@
 # `make` alone lists the targets. docs/dev/TESTS.md says what each of them tests.
-.PHONY: help where demo morphd library check-library install uninstall dist check-dist quick test wrong-bodies documents memory soak bench costs toolchain python3 compiler valgrind
+.PHONY: help where demo morphd library check-library install uninstall dist check-dist quick test wrong-bodies documents memory soak races bench costs toolchain python3 compiler valgrind
 
 MORPHD = crates/morphd/out/morphd
 
@@ -18,6 +18,7 @@ help:
 	@echo "make documents  compares the documents with the repository, replays their examples, and compares header and proved functions"
 	@echo "make memory     refuses each allocation and each start of a thread in turn, and measures memory"
 	@echo "make soak       runs random sessions beside a reference model, and two servers with good and bad clients; FOR=seconds"
+	@echo "make races      looks for what two threads do to one place unordered: servers, a batch and the library"
 	@echo "make bench      takes the times of docs/dev/PERFORMANCE.md"
 	@echo "make costs      counts instructions, and compares them with those that are kept"
 	@echo "make python     makes the Python package with the library in it, as a wheel in out"
@@ -59,6 +60,7 @@ quick: toolchain python3 documents
 	@python3 -B checks/replay_stored_run.py --test
 	@python3 -B checks/python_package.py needs
 	@python3 -B checks/replay.py --test
+	@python3 -B checks/corpus.py --test
 	@python3 -B checks/gate.py unproved
 
 test: quick
@@ -71,7 +73,7 @@ test: quick
 	@python3 -B checks/passed.py
 
 # What runs nowhere by itself writes into checks/passed.txt on which commit it passed: on that which stood here when it began.
-ALONE = check-dist check-library check-python memory soak
+ALONE = check-dist check-library check-python memory soak races
 ifneq ($(filter $(ALONE),$(MAKECMDGOALS)),)
 BEGUN := $(shell python3 -B checks/passed.py --state)
 endif
@@ -94,26 +96,20 @@ documents: python3
 morphd: toolchain python3
 	@python3 -B checks/prove.py morphd
 
-# The library for C: the proved crate, and the functions of the kit by which it asks for memory. Both forms of it show the
-# functions of the header alone, so a program may have any other name for its own. `make test` proves the crate, but links
+# The library for C: the proved crate, built for two processors, and the functions of the kit by which it asks for memory. Both forms of it
+# show the functions of the header alone, so a program may have any other name for its own. `make test` proves the crate, but links
 # nothing: `rt ci` leaves no static library behind, so `make check-library` there would prove it a second time.
 KIT = $(shell dirname "$$(rt doc)")
 MEMORY = $(KIT)/c/liblibc_c.a
 PROVED = crates/mw_c/out/libmw_c.a
+PROVED_V3 = crates/mw_c/out/libmw_c.x86-64-v3.a
 
 library: toolchain python3 compiler
 	@python3 -B checks/prove.py mw_c
-	@mkdir -p out
-	@printf '{ global: morphd_*; local: *; };\n' > out/morphd.map
-	cc -shared -o out/libmorphd.so -Wl,-soname,libmorphd.so.1 -Wl,--version-script=out/morphd.map -Wl,--gc-sections -Wl,-z,defs \
-	  -Wl,--whole-archive $(PROVED) -Wl,--no-whole-archive $(MEMORY)
-	@ln -sf libmorphd.so out/libmorphd.so.1
-	ld -r -o out/morphd.o --whole-archive $(PROVED) --no-whole-archive $(MEMORY)
-	@objcopy --wildcard --keep-global-symbol='morphd_*' out/morphd.o
-	@rm -f out/libmorphd.a
-	@ar rcs out/libmorphd.a out/morphd.o
+	@python3 -B library/link.py out $(PROVED) $(PROVED_V3) $(MEMORY)
 
 check-library: library
+	@python3 -B library/link.py --test
 	@python3 -B checks/library.py out $(wildcard $(MORPHD))
 	@python3 -B checks/passed.py $@ $(BEGUN)
 
@@ -163,9 +159,16 @@ soak: toolchain python3
 	@python3 -B checks/board_wakings.py $(MORPHD)
 	@python3 -B checks/bad_peers.py $(MORPHD)
 	@python3 -B checks/bad_peers_serve.py $(MORPHD)
+	@python3 -B checks/kept_memory.py $(MORPHD)
 	@python3 -B checks/soak.py $(MORPHD) $(FOR) $(SEED)
 	@python3 -B checks/soak_listen.py $(MORPHD) $(FOR) $(SEED)
 	@python3 -B checks/soak_serve.py $(MORPHD) $(FOR) $(SEED)
+	@python3 -B checks/passed.py $@ $(BEGUN)
+
+races: toolchain python3 compiler valgrind library
+	@python3 -B checks/races.py --test
+	@python3 -B checks/prove.py morphd
+	@python3 -B checks/races.py $(MORPHD) out/libmorphd.so
 	@python3 -B checks/passed.py $@ $(BEGUN)
 
 # Best on a machine that does nothing else: each line is the best of five runs in one thread (of the core and the board

@@ -4,6 +4,8 @@
     /usr/bin/python3 bench/grains.py out/libmorphd.so [ROUNDS [WORD [SIDE]]]
     /usr/bin/python3 bench/grains.py out/libmorphd.so memory [WORD [SIDE]]
 
+With @v2 or @v3 behind its path the library runs in that build, as with bench/library.py.
+
 The images have SIDE x SIDE pixels, 4096 if left out: grains (noise that was blurred, with some noise of its own), noise, a
 checkerboard, a comb of lines that one row joins, a serpent of lines that are joined left and right by turns, and a spiral. With a word
 only the lines that have it are timed. The best of so many rounds counts, by the time of the processor; what takes a peer over eight
@@ -12,19 +14,22 @@ arrays, and how often it waits for a page. It needs a Python with cv2, scipy and
 python3-skimage).
 """
 import ctypes
-import pathlib
 import sys
 
 import cv2
 import numpy
 import scipy.ndimage
+import skimage.measure
 import skimage.morphology
-from library import ARRAY, ELEMENT, LEVELS, NUMBER, POINTER, milliseconds, taken
+from library import ARRAY, ELEMENT, LEVELS, NUMBER, POINTER, milliseconds, opened, taken
 
 FOUR, EIGHT = (scipy.ndimage.generate_binary_structure(2, it).astype(numpy.uint8) for it in (1, 2))
 SECONDS = 8
 H = 40
 BY_DILATION, MAXIMA = 0, 0
+AREA_OPENING, AREA_CLOSING = range(2)
+# Of area operators on levels a corner of each image is taken: scikit-image needs seconds for a megapixel.
+SIDE_OF_AREAS = 1024
 CITY_BLOCK, CHESSBOARD, SQUARED_EUCLID = range(3)
 # Numbers that are told of each component.
 COLUMNS = 7
@@ -137,22 +142,26 @@ class Calls:
         return self.of_image("morphd_fill_" + kind, [], image, kind, element, numpy.zeros_like(image))
 
     def labels(self, image, element):
-        """Labels, and what is told of each component."""
+        """Labels, and what is told of each component, by one call."""
+        components, out = (ctypes.c_uint32 * 1)(), numpy.zeros(image.shape, numpy.uint32)
+        told = numpy.zeros((image.size // 2 + 1, COLUMNS), numpy.uint32)
+        types = [NUMBER] * 2 + ARRAY + ELEMENT + ARRAY + ARRAY + [POINTER]
+        arrays = [out.ctypes.data, out.size, told.ctypes.data, told.size, ctypes.addressof(components)]
+        words = [*frame(image, "set"), *bitmap(element), *arrays]
+        return self.call("morphd_components_set", types, words, out, image, element, components, told)
+
+    def labels_alone(self, image, element):
         components, out = (ctypes.c_uint32 * 1)(), numpy.zeros(image.shape, numpy.uint32)
         types = [NUMBER] * 2 + ARRAY + ELEMENT + ARRAY + [POINTER]
-        given = [*frame(image, "set"), *bitmap(element)]
-        held, count = (image, element, components), ctypes.addressof(components)
-        label, _ = self.call("morphd_label_set", types, [*given, out.ctypes.data, out.size, count], out, *held)
-        told = numpy.zeros((image.size // 2 + 1, COLUMNS), numpy.uint32)
-        tell, _ = self.call("morphd_regions_set", types, [*given, told.ctypes.data, told.size, count], told, *held, told)
-
-        def both():
-            label()
-            tell()
-        return both, out
+        words = [*frame(image, "set"), *bitmap(element), out.ctypes.data, out.size, ctypes.addressof(components)]
+        return self.call("morphd_label_set", types, words, out, image, element, components)
 
     def large(self, image, least, element):
         return self.of_image("morphd_area_set", [least], image, "set", element, numpy.zeros_like(image))
+
+    def area(self, kind, image, least, element):
+        samples = kind_of(image)
+        return self.of_image("morphd_area_" + samples, [kind, least], image, samples, element, numpy.zeros_like(image))
 
     def distance(self, image, metric):
         out = numpy.zeros(image.shape, numpy.uint32)
@@ -180,11 +189,30 @@ def same(ours, theirs):
     return bool(numpy.array_equal(ours, theirs))
 
 
+def as_many(ours, theirs):
+    """Whether labels are of one set, and as many."""
+    return bool(((ours > 0) == (theirs > 0)).all() and ours.max() == theirs.max())
+
+
 def dots(image):
     """Every 97th pixel of a set."""
     marker = numpy.zeros_like(image)
     marker.ravel()[::97] = image.ravel()[::97]
     return marker
+
+
+def scipy_told(image):
+    """The labels that SciPy makes, beside areas and boxes."""
+    labels, count = scipy.ndimage.label(image, numpy.ones((3, 3), int))
+    numpy.bincount(labels.ravel(), minlength=count + 1)
+    scipy.ndimage.find_objects(labels, count)
+    return labels
+
+
+def skimage_told(image):
+    labels = skimage.measure.label(image, connectivity=2)
+    skimage.measure.regionprops_table(labels, properties=("area", "bbox"))
+    return labels
 
 
 def lines_of_levels(calls, given):
@@ -201,6 +229,15 @@ def lines_of_levels(calls, given):
                lambda image=image, element=element: 255 - skimage_rebuilds(from_border(255 - image), 255 - image, footprint=element), same)
 
 
+def lines_of_areas(calls, given):
+    for name, kind, word in (("grains", AREA_OPENING, "opening"), ("grains", AREA_CLOSING, "closing"),
+                             ("grains of 16 bits", AREA_OPENING, "opening"), ("noise", AREA_OPENING, "opening")):
+        image = numpy.ascontiguousarray(given[name][:SIDE_OF_AREAS, :SIDE_OF_AREAS])
+        theirs = getattr(skimage.morphology, "area_" + word)
+        yield (f"area {word}, 200, 8 neighbours, {name}, {len(image)} x {len(image)}", calls.area(kind, image, 200, EIGHT), "scikit-image",
+               lambda image=image, theirs=theirs: theirs(image, 200, 2), same)
+
+
 def lines_of_sets(calls, given):
     for name in ("set of grains", "noise of 59 %", "spiral"):
         mask = given[name]
@@ -215,7 +252,12 @@ def lines_of_sets(calls, given):
             image = given[name]
             yield (f"labels, areas and boxes, {ways} neighbours, {name}", calls.labels(image, element), "OpenCV",
                    lambda image=image, ways=ways: cv2.connectedComponentsWithStats(image, connectivity=ways, ltype=cv2.CV_32S)[1],
-                   lambda ours, theirs: bool(((ours > 0) == (theirs > 0)).all() and ours.max() == theirs.max()))
+                   as_many)
+    yield ("labels, 8 neighbours, set of grains", calls.labels_alone(grains_set, EIGHT), "SciPy",
+           lambda: scipy.ndimage.label(grains_set, numpy.ones((3, 3), int))[0], as_many)
+    for peer, told in (("SciPy", scipy_told), ("scikit-image", skimage_told)):
+        yield ("labels, areas and boxes, 8 neighbours, set of grains", calls.labels(grains_set, EIGHT), peer,
+               lambda told=told: told(grains_set), as_many)
     yield ("area opening, 200, 8 neighbours, set of grains", calls.large(grains_set, 200, EIGHT), "scikit-image",
            lambda: skimage.morphology.remove_small_objects(grains_set > 0, 200, 2), same)
 
@@ -231,7 +273,7 @@ def lines_of_distances(calls, given):
 
 
 def lines(calls, given, word):
-    for part in (lines_of_levels, lines_of_sets, lines_of_distances):
+    for part in (lines_of_levels, lines_of_areas, lines_of_sets, lines_of_distances):
         for line in part(calls, given):
             if word in line[0]:
                 yield line
@@ -250,7 +292,8 @@ def timed(run, rounds):
 
 
 def main():
-    library = ctypes.CDLL(str(pathlib.Path(sys.argv[1]).resolve()))
+    told, library = opened(sys.argv[1])
+    print(f"libmorphd: {told}")
     first, word, side = [*sys.argv[2:], *("3", "", "4096")[len(sys.argv) - 2:]][:3]
     cv2.setNumThreads(1)
     wanted = lines(Calls(library), images(int(side)), word)

@@ -2,19 +2,25 @@
 """Times libmorphd beside OpenCV, both in one thread and by turns in one run, on images of 4096 x 4096, with the samples of
 bench_parts. The best of so many rounds counts, by the time of the processor; both write into an array that is there already.
 
-    /usr/bin/python3 bench/library.py out/libmorphd.so [ROUNDS [WORD]]
-    /usr/bin/python3 bench/library.py out/libmorphd.so memory [WORD]
-    /usr/bin/python3 bench/library.py out/libmorphd.so alone [WORD]
+    /usr/bin/python3 bench/library.py LIBRARY.. [ROUNDS [WORD]]
+    /usr/bin/python3 bench/library.py LIBRARY.. memory [WORD]
+    /usr/bin/python3 bench/library.py LIBRARY.. alone [WORD]
+
+A LIBRARY is a path, as out/libmorphd.so, in the build that this processor and MORPHD_CPU pick, or a path with @v2 or @v3 behind it,
+in that build. It is told which build runs. Several libraries run by turns: both builds of one, or those of two commits.
 
 With a word only the lines that have it are timed. With `memory` it tells instead how much memory a call takes beyond the
 caller's arrays, and how often it waits for a page, from a heap that is empty. With `alone` it only calls libmorphd, for who
 counts where the time goes. It needs a Python with cv2 (Debian: python3-opencv).
 """
 import ctypes
+import os
 import pathlib
 import re
 import resource
+import shutil
 import sys
+import tempfile
 import time
 
 import cv2
@@ -25,6 +31,25 @@ ERODE, OPEN, GRADIENT, RANK = 0, 2, 4, 7
 NUMBER, LENGTH, POINTER = ctypes.c_uint32, ctypes.c_size_t, ctypes.c_void_p
 ARRAY, ELEMENT = [POINTER, LENGTH], [POINTER, LENGTH] + [NUMBER] * 4
 LEVELS = {"u8": [ctypes.c_uint8], "u16": [ctypes.c_uint16], "set": []}
+
+
+def opened(told):
+    """A library in a build, of a copy, since a process loads each file once and picks a build then; and what both are called."""
+    path, _, cpu = told.partition("@")
+    before = os.environ.get("MORPHD_CPU")
+    if cpu:
+        os.environ["MORPHD_CPU"] = cpu
+    with tempfile.TemporaryDirectory() as folder:
+        library = ctypes.CDLL(shutil.copy(path, folder))
+    if cpu:
+        del os.environ["MORPHD_CPU"]
+        if before is not None:
+            os.environ["MORPHD_CPU"] = before
+    # one from before there were two builds does not tell
+    build = f"v{library.morphd_build()}" if hasattr(library, "morphd_build") else "v2"
+    if cpu not in ("", build):
+        sys.exit(f"{path} runs its build for x86-64-{build} here, and not for x86-64-{cpu}")
+    return f"{path}, for x86-64-{build}", library
 
 
 def flat(library, kind):
@@ -67,10 +92,10 @@ def milliseconds(run):
     return 1000 * (time.process_time() - start)
 
 
-def by_turns(first, second, rounds):
-    """The least time of each of the two, run one after the other."""
-    times = [(milliseconds(first), milliseconds(second)) for _ in range(rounds)]
-    return min(it[0] for it in times), min(it[1] for it in times)
+def by_turns(runs, rounds):
+    """The least time of each, run one after the other."""
+    times = [[milliseconds(run) for run in runs] for _ in range(rounds)]
+    return [min(it) for it in zip(*times)]
 
 
 def resident(word):
@@ -114,30 +139,41 @@ def call_alone(library, images, wanted):
         print(f"{kind} {name}: {min(milliseconds(lambda: run(operation, k, image, element, out)) for _ in range(100)):.1f} ms")
 
 
-def tell_times(library, images, wanted, rounds):
+def tell_times(libraries, images, wanted, rounds):
+    each = range(1, len(libraries) + 1) if len(libraries) > 1 else [""]
     print(f"OpenCV {cv2.__version__}, one thread each, {SIDE} x {SIDE}, the best of {rounds} by turns, in milliseconds")
-    print("| samples | what | libmorphd | OpenCV | times OpenCV's | the same |")
+    print("| samples | what |", *(f"libmorphd{f' {it}' if it else ''} |" for it in each), "OpenCV |",
+          *(f"{f'{it} ' if it else ''}times OpenCV's |" for it in each), "the same |")
     for name, kind, operation, k, element, theirs in wanted:
-        image, run = images[kind], flat(library, kind)
-        ours, other = numpy.zeros_like(image), numpy.zeros_like(image)
-        mine, its = by_turns(lambda: run(operation, k, image, element, ours), lambda: theirs(image, element, other), rounds)
-        print(f"| {kind} | {name} | {mine:.1f} | {its:.1f} | {mine / its:.2f} | {agrees(ours, other, element)} |", flush=True)
+        image, other = images[kind], numpy.zeros_like(images[kind])
+        outs = [numpy.zeros_like(image) for _ in libraries]
+        runs = [lambda run=flat(it, kind), out=out: run(operation, k, image, element, out) for it, out in zip(libraries, outs)]
+        *mine, its = by_turns([*runs, lambda: theirs(image, element, other)], rounds)
+        same = all(agrees(it, other, element) for it in outs)
+        print(f"| {kind} | {name} |", *(f"{it:.1f} |" for it in mine), f"{its:.1f} |", *(f"{it / its:.2f} |" for it in mine),
+              f"{same} |", flush=True)
 
 
 def main():
-    library = ctypes.CDLL(str(pathlib.Path(sys.argv[1]).resolve()))
-    first, word = sys.argv[2] if len(sys.argv) > 2 else "7", sys.argv[3] if len(sys.argv) > 3 else ""
+    words = sys.argv[1:]
+    given = [it for it in words if not it.isdigit() and os.path.isfile(it.partition("@")[0])]
+    if not given:
+        sys.exit(__doc__)
+    first, word = [*words[len(given):], *("7", "")[len(words) - len(given):]]
+    libraries = []
+    for number, (name, library) in enumerate((opened(it) for it in given), 1):
+        print(f"libmorphd{f' {number}' if len(given) > 1 else ''}: {name}")
+        libraries.append(library)
     cv2.setNumThreads(1)
-    words = levels()
-    octets = words.astype(numpy.uint8)
-    images = {"u8": octets, "u16": words, "set": (words % 10 != 0).astype(numpy.uint8)}
+    samples = levels()
+    octets = samples.astype(numpy.uint8)
+    images = {"u8": octets, "u16": samples, "set": (samples % 10 != 0).astype(numpy.uint8)}
     wanted = [line for line in lines() if word in f"{line[1]} {line[0]}"]
-    if first == "memory":
-        tell_memory(library, images, wanted)
-    elif first == "alone":
-        call_alone(library, images, wanted)
+    if first in ("memory", "alone"):
+        for library in libraries:
+            (tell_memory if first == "memory" else call_alone)(library, images, wanted)
     else:
-        tell_times(library, images, wanted, int(first))
+        tell_times(libraries, images, wanted, int(first))
 
 
 if __name__ == "__main__":

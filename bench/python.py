@@ -2,6 +2,7 @@
 """Times the Python package beside OpenCV, SciPy and scikit-image, on one thread and on four, and what it adds to the library.
 
     python3 bench/python.py [SIDE..]        sides of the pictures; 1024 and 4096 if left out
+    python3 bench/python.py floods [SIDE..] watersheds and touching grains alone
 
 Each time is the best of five runs or more in milliseconds, taken by turns in one process; gains of four workers are told beside what
 four threads are worth at that moment. The pictures are of real shape: soft discs of many sizes on a slanted ground with noise. A
@@ -38,6 +39,7 @@ def optional(name):
 
 
 cv2, ndimage, skimage = optional("cv2"), optional("scipy.ndimage"), optional("skimage.morphology")
+segmentation = optional("skimage.segmentation")
 
 
 def picture(side):
@@ -101,18 +103,18 @@ def median(image, side):
     return (lambda workers: morphd.median(image, b, workers=workers)), peers
 
 
-def timed(run):
-    begun = time.perf_counter()
+def timed(run, clock=time.perf_counter):
+    begun = clock()
     run()
-    return 1000 * (time.perf_counter() - begun)
+    return 1000 * (clock() - begun)
 
 
-def best(runs):
+def best(runs, clock=time.perf_counter):
     """The best of each of several runs, taken by turns; one that takes too long is run once."""
-    times = [timed(run) for run in runs]
+    times = [timed(run, clock) for run in runs]
     begun, rounds = time.perf_counter(), 1
     while rounds < ROUNDS or time.perf_counter() - begun < SECONDS:
-        times = [was if was > 1000 * LONGEST else min(was, timed(run)) for was, run in zip(times, runs)]
+        times = [was if was > 1000 * LONGEST else min(was, timed(run, clock)) for was, run in zip(times, runs)]
         rounds += 1
     return times
 
@@ -134,6 +136,40 @@ def tell_jobs(side):
             cells = [f"{found[word]:.1f}" if word in found else "-" for word in ("OpenCV, 1", "OpenCV, 4", "SciPy", "scikit-image")]
             gain = found["one"] / found["four"]
             print(f"| {name} | {image.dtype} | {found['one']:.1f} | {found['four']:.1f} | {gain:.2f} | {' | '.join(cells)} |", flush=True)
+
+
+def floods(side):
+    """A name, its samples, what the package does in one thread, and the same of scikit-image: by the same markers, or by its own steps."""
+    levels = picture(side)
+    for image in ((levels >> 8).astype(np.uint8), levels):
+        calm = morphd.median(image, morphd.square(5))
+        edges = morphd.gradient(calm, morphd.square(3))
+        h = 8 if image.dtype == np.uint8 else 2048
+        markers = morphd.label(morphd.local_minima(morphd.hmin(edges, h)))
+        yield "watershed of a gradient", image.dtype, lambda: morphd.watershed(edges, markers), lambda: segmentation.watershed(edges, markers)
+        dots = np.zeros(image.shape, np.int32)
+        dots[::64, ::64] = np.arange(1, dots[::64, ::64].size + 1).reshape(dots[::64, ::64].shape)
+        yield "watershed of noise, a marker each 64", image.dtype, lambda: morphd.watershed(image, dots), \
+            lambda: segmentation.watershed(image, dots)
+    grains = levels > 30000
+    far = morphd.distance(grains)
+    middles = morphd.label(morphd.local_maxima(morphd.hmax((16 * far).astype(np.uint16), 16)))
+    yield "watershed of distances in a set", far.dtype, lambda: morphd.watershed((-16 * far).astype(np.int32), middles, mask=grains), \
+        lambda: segmentation.watershed(-far, middles, mask=grains)
+
+    def split():
+        own = ndimage.distance_transform_edt(grains)
+        return segmentation.watershed(-own, ndimage.label(skimage.h_maxima(own, 1))[0], mask=grains)
+
+    yield "split_grains, h = 1", grains.dtype, lambda: morphd.split_grains(grains), split
+
+
+def tell_floods(side):
+    print(f"\nWatersheds, {side} x {side}, one thread, milliseconds of the processor, best of {ROUNDS} or more\n")
+    print("| job | samples | morphd | scikit-image |\n|---|---|---:|---:|")
+    for name, dtype, ours, theirs in floods(side):
+        runs = [ours] if segmentation is None or ndimage is None else [ours, theirs]
+        print(f"| {name} | {dtype} | {' | '.join(f'{each:.0f}' for each in best(runs, time.process_time))} |", flush=True)
 
 
 def tell_added(side):
@@ -193,13 +229,21 @@ def main():
         _library.loaded()
     except morphd.LibraryMissing as missing:
         sys.exit(f"no times of the Python package: {missing}")
+    words = sys.argv[1:]
+    sides = [int(word) for word in words if word != "floods"] or [1024, 4096]
+    if "floods" in words:
+        for side in sides:
+            tell_floods(side)
+        return
+    print(f"The library runs for {morphd.library_build()}.\n")
     print("What the package adds to an erosion by 3 x 3, 8 bits, milliseconds\n")
     print("| picture | the library's call | morphd.erosion | more | one copy of the picture |\n|---|---:|---:|---:|---:|")
     for side in (16, 256, 1024, 4096):
         tell_added(side)
     tell_gains(4096)
-    for side in [int(word) for word in sys.argv[1:]] or [1024, 4096]:
+    for side in sides:
         tell_jobs(side)
+        tell_floods(side)
 
 
 if __name__ == "__main__":

@@ -166,7 +166,7 @@ def many_at_once(program):
 
 def comes_late(program):
     """comes when the service is to end"""
-    with Service(program, 2) as service:
+    with Service(program, 2, more=("--grace", "600")) as service:
         with service.connect() as running:
             must_be(running.ask(b"STATUS x\n"), (b"ERR 41 UNKNOWN\n", b""), "a first line")
             service.run.stdin.close()

@@ -59,6 +59,13 @@ FAULTS = {
     "serve --tile 1 --idle 0": TILE,
     "serve --idle 0": IDLE,
     "serve --idle 86401": IDLE,
+    "serve --idle 0 --queue 0": IDLE,
+    "serve --queue 0": "error: queue must be from 1 to 1024",
+    "serve --queue 1025 --grace 0": "error: queue must be from 1 to 1024",
+    "serve --grace 0": "error: grace must be from 1 to 86400",
+    "serve --grace 86401 --status 0": "error: grace must be from 1 to 86400",
+    "serve --status 0": "error: status must be from 1 to 65535",
+    "serve --status 65536": "error: status must be from 1 to 65535",
 }
 
 
@@ -95,7 +102,8 @@ def words_that_are_taken(program):
                  "batch --tile 1024 --workers=64 --strict"):
         must_be(ran(program, line), (0, b"", b""), "morphd " + line)
     for line in ("serve --until-end", "serve --workers 64 --sessions 1024 --tile 64 --idle 86400 --until-end",
-                 "serve --port 0 --sessions 1 --idle=1 --until-end"):
+                 "serve --port 0 --sessions 1 --idle=1 --until-end", "serve --queue 1 --grace=1 --until-end",
+                 "serve --queue 1024 --grace 86400 --until-end"):
         status, output, faults = ran(program, line)
         must_be((status, output.count(b"\n"), faults), (0, 1, b""), "morphd " + line)
 

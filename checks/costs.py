@@ -13,10 +13,10 @@ The first list has the jobs that users wait for. The second has a workload for e
 kernel makes a rank, what is looked at where a task ends, how a table grows. Its sessions are made by bench/more_sessions.py.
 
 The workloads are run by the proved programs (`checks/prove.py bench_sessions morphd`) with the number 1 for SEED, under Debian's
-valgrind, side by side. Those of the library are run by bench/library_costs.c over out/libmorphd.so, and left out where it is not
-linked (`make library`). A count is the same at each run, on a busy machine as on a quiet one. The C library picks its copies and
-fills by the processor that it finds, and by the size of its caches, so it is told which to take: those without AVX. A change
-of the compiler, of the C library or of valgrind may change all counts.
+valgrind, side by side. Those of the library are run by bench/library_costs.c over out/libmorphd.so, in its build for x86-64-v2, and left
+out where it is not linked (`make library`). A count is the same at each run, on a busy machine as on a quiet one. The C library picks
+its copies and fills by the processor that it finds, and by the size of its caches, so it is told which to take: those without AVX. A
+change of the compiler, of the C library or of valgrind may change all counts.
 """
 import argparse
 import contextlib
@@ -48,6 +48,8 @@ ENVIRONMENT = {
     "GLIBC_TUNABLES": "glibc.cpu.hwcaps=-AVX2,-AVX_Fast_Unaligned_Load,-ERMS,Fast_Unaligned_Copy"
                       ":glibc.cpu.x86_non_temporal_threshold=0xc0000",
 }
+# Of the library: its build that every processor takes.
+BUILD = {"MORPHD_CPU": "v2"}
 SEED = "1"
 # A rise or a fall is told from here on, in parts of 100.
 TOLD = 2
@@ -100,9 +102,10 @@ def counted(workload, folder):
     if not os.path.isfile(program):
         sys.exit(f"{program} is missing: python3 checks/prove.py {workload.crate}")
     given = f"{folder}/{workload.name}" if workload.given == "SESSION" else os.path.join(BENCH, workload.given or os.devnull)
+    around = ENVIRONMENT | BUILD if workload.crate == "library" else ENVIRONMENT
     with open(given, "rb") as stdin, tempfile.NamedTemporaryFile("r", encoding="utf-8") as told:
         ran = subprocess.run([*VALGRIND, f"--callgrind-out-file={told.name}", program, *workload.words], cwd=BENCH,
-                             env=ENVIRONMENT, stdin=stdin, stdout=subprocess.DEVNULL, stderr=subprocess.PIPE, check=False)
+                             env=around, stdin=stdin, stdout=subprocess.DEVNULL, stderr=subprocess.PIPE, check=False)
         found = re.search(r"^summary: (\d+)", told.read(), re.MULTILINE)
     if ran.returncode or not found:
         said = ran.stderr.decode(errors="replace")

@@ -46,14 +46,16 @@ void __wrap_free(void *old) {
 
 typedef struct {
     const char *name;
-    enum { U8, U16, SET, SKELETON, RESTORE, SPECTRUM, THRESHOLD, HIT_OR_MISS, ROWS } call;
+    enum { U8, U16, SET, SKELETON, RESTORE, SPECTRUM, THRESHOLD, HIT_OR_MISS, ROWS, RECONSTRUCT_U8, RECONSTRUCT_U16, RECONSTRUCT_SET,
+           FILL_U8, FILL_U16, CLEAR_BORDER_SET, EXTREMA_U8, MINIMA_U16, LABEL, REGIONS, COMPONENTS, AREA, AREA_U8, AREA_U16, DISTANCE } call;
     uint32_t number, k, width, height, side;
     /* All pixels of a square, or those of a disc. */
     enum { BOX, DISC } shape;
 } Case;
 
-static uint8_t *bytes, element[LARGEST * LARGEST], far_pixel[3] = {1, 0, 0};
-static uint16_t *words;
+static uint8_t *bytes, *board, *marker, element[LARGEST * LARGEST], far_pixel[3] = {1, 0, 0};
+static uint16_t *words, *marker_words;
+static uint32_t told, row[7];
 
 static void draw(const Case *c) {
     int middle = c->side / 2;
@@ -79,6 +81,27 @@ static int32_t run(const Case *c) {
     case THRESHOLD: return morphd_threshold_u16(c->number, width, height, 65535, words, count, out, count);
     case HIT_OR_MISS:
         return morphd_hit_or_miss_u8(width, height, 255, bytes, count, ELEMENT, far_pixel, 3, 3, 1, 2, 0, out, count);
+    case RECONSTRUCT_U8:
+        return morphd_reconstruct_u8(MORPHD_BY_DILATION, width, height, 255, marker, count, width, height, 255, bytes, count, ELEMENT, out,
+                                     count);
+    case RECONSTRUCT_U16:
+        return morphd_reconstruct_u16(MORPHD_BY_EROSION, width, height, 65535, marker_words, count, width, height, 65535, words, count,
+                                      ELEMENT, (uint16_t *)out, count);
+    case RECONSTRUCT_SET:
+        return morphd_reconstruct_set(MORPHD_BY_DILATION, width, height, marker, count, width, height, board, count, ELEMENT, out, count);
+    case FILL_U8: return morphd_fill_u8(width, height, 255, bytes, count, ELEMENT, out, count);
+    case FILL_U16: return morphd_fill_u16(width, height, 65535, words, count, ELEMENT, (uint16_t *)out, count);
+    case CLEAR_BORDER_SET: return morphd_clear_border_set(width, height, board, count, ELEMENT, out, count);
+    case EXTREMA_U8: return morphd_extrema_h_u8(MORPHD_MINIMA, c->number, width, height, 255, bytes, count, ELEMENT, out, count);
+    case MINIMA_U16: return morphd_extrema_regional_u16(MORPHD_MINIMA, width, height, 65535, words, count, ELEMENT, out, count);
+    case LABEL: return morphd_label_set(width, height, board, count, ELEMENT, (uint32_t *)out, count, &told);
+    case REGIONS: return morphd_regions_set(width, height, board, count, ELEMENT, (uint32_t *)out, count, &told);
+    case COMPONENTS:
+        return morphd_components_set(width, height, board, count, ELEMENT, (uint32_t *)out, count, row, 7, &told);
+    case AREA_U8: return morphd_area_u8(c->number, c->k, width, height, 255, bytes, count, ELEMENT, out, count);
+    case AREA_U16: return morphd_area_u16(c->number, c->k, width, height, 65535, words, count, ELEMENT, (uint16_t *)out, count);
+    case AREA: return morphd_area_set(c->number, width, height, board, count, ELEMENT, out, count);
+    case DISTANCE: return morphd_distance_set(c->number, UINT32_MAX, width, height, bytes, count, (uint32_t *)out, count);
     default: return morphd_flat_rows_u8(c->number, c->k, height / 2, width, height, 255, bytes, count, ELEMENT, out, count / 2);
     }
 }
@@ -107,6 +130,24 @@ static const Case cases[] = {
     {"skeleton_254_levels", SKELETON, 254, 0, 2048, 2048, 3, BOX},
     {"restore_254_levels", RESTORE, 254, 0, 2048, 2048, 3, BOX},
     {"spectrum_u8_32_levels", SPECTRUM, 32, 0, 1024, 1024, 3, DISC},
+    {"reconstruction_u8", RECONSTRUCT_U8, 0, 0, 2048, 2048, 3, BOX},
+    {"reconstruction_u16", RECONSTRUCT_U16, 0, 0, 2048, 2048, 3, DISC},
+    {"reconstruction_set", RECONSTRUCT_SET, 0, 0, 4096, 2048, 3, BOX},
+    {"fill_u8", FILL_U8, 0, 0, 2048, 2048, 3, DISC},
+    {"fill_u16", FILL_U16, 0, 0, 2048, 2048, 3, BOX},
+    {"clear_border_set", CLEAR_BORDER_SET, 0, 0, 4096, 2048, 3, BOX},
+    {"h_minima_u8", EXTREMA_U8, 40, 0, 2048, 2048, 3, BOX},
+    {"regional_minima_u16", MINIMA_U16, 0, 0, 2048, 2048, 3, DISC},
+    {"label_four", LABEL, 0, 0, 4096, 2048, 3, DISC},
+    {"label_eight", LABEL, 0, 0, 4096, 2048, 3, BOX},
+    {"regions_eight", REGIONS, 0, 0, 4096, 2048, 3, BOX},
+    {"components_eight", COMPONENTS, 0, 0, 4096, 2048, 3, BOX},
+    {"area_opening_u8", AREA_U8, MORPHD_AREA_OPENING, 9, 1024, 1024, 3, BOX},
+    {"area_closing_u16", AREA_U16, MORPHD_AREA_CLOSING, 9, 1024, 1024, 3, DISC},
+    {"area_set", AREA, 2, 0, 4096, 2048, 3, DISC},
+    {"distance_city_block", DISTANCE, MORPHD_CITY_BLOCK, 0, 4096, 2048, 1, BOX},
+    {"distance_chessboard", DISTANCE, MORPHD_CHESSBOARD, 0, 4096, 2048, 1, BOX},
+    {"distance_squared_euclid", DISTANCE, MORPHD_SQUARED_EUCLID, 0, 4096, 2048, 1, BOX},
 };
 
 int main(void) {
@@ -114,10 +155,17 @@ int main(void) {
     bytes = __real_malloc(largest);
     words = __real_malloc(2 * largest);
     out = __real_malloc(2 * largest);
-    if (!bytes || !words || !out) return 1;
+    board = __real_malloc(largest);
+    marker = __real_malloc(largest);
+    marker_words = __real_malloc(2 * largest);
+    if (!bytes || !words || !out || !board || !marker || !marker_words) return 1;
     for (size_t i = 0; i < largest; i++) {
         bytes[i] = i * 2654435761u >> 24 & 127;
         words[i] = i * 2654435761u >> 17;
+        /* a chessboard in rows of 4096 pixels, which has the most components */
+        board[i] = (i ^ i >> 12) & 1;
+        marker[i] = i % 64 ? 0 : bytes[i];
+        marker_words[i] = i % 64 ? 65535 : words[i];
     }
     for (size_t number = 0; number < sizeof cases / sizeof *cases; number++) {
         const Case *c = &cases[number];

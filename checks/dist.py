@@ -396,7 +396,7 @@ def tries_of_tree(root):
     done = bare_roots.run_in(root, ["morphd", "batch"], SESSION.read_bytes())
     known = bare_roots.run_in(root, ["ldconfig", "--print-cache"]).stdout.decode()
     unit = (root / "usr/local/lib/systemd/system/morphd.service").read_text(encoding="utf-8")
-    if done.stdout != REPLIES.read_bytes() or f"/usr/local/lib/{layout.SONAME}" not in known or "=/usr/local/bin/morphd " not in unit:
+    if done.stdout != REPLIES.read_bytes() or f"/usr/local/lib/{layout.SONAME}" not in known or " /usr/local/bin/morphd " not in unit:
         yield f"as INSTALL says the tree is not in place: {done.stdout[:100]} {done.stderr[:200]}"
 
 
@@ -408,7 +408,7 @@ def tries_of_program(root):
     if layout.SONAME not in bare_roots.run_in(root, ["ldconfig", "--print-cache"]).stdout.decode():
         yield "the loader does not know the installed library"
     unit = (root / "lib/systemd/system/morphd.service").read_text(encoding="utf-8")
-    started = re.search(r"^ExecStart=(\S+)", unit, re.MULTILINE)[1]
+    started = re.search(r"^ExecStart=.* (/\S+) serve ", unit, re.MULTILINE)[1]
     if not (root / started[1:]).exists():
         yield f"the unit starts {started}, which is not installed"
     folder = root / "usr/lib/x86_64-linux-gnu/pkgconfig"

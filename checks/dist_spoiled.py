@@ -154,7 +154,7 @@ SPOILED = [
                  (lambda one: redeb(one, "python3-morphd", without("usr/share/doc/python3-morphd/copyright")), "has no copyright"),
                  (lambda one: redeb(one, "libmorphd1", without("DEBIAN/triggers")), "lintian: .*ldconfig")]),
     ("debian", [(lambda one: redeb(one, "morphd", without("DEBIAN/preinst")), "morphd is installed without SSE4"),
-                (lambda one: redeb(one, "morphd", changed(UNIT, b"=/usr/bin", b"=/usr/sbin")), "which is not installed"),
+                (lambda one: redeb(one, "morphd", changed(UNIT, b" /usr/bin", b" /usr/sbin")), "which is not installed"),
                 (lambda one: redeb(one, "morphd", without("DEBIAN/postrm")), r"leave behind .*wants/morphd\.service"),
                 (partial(retar, change=changed("INSTALL", b"xargs rm &&", b"true &&")), "INSTALL: find .*rmdir"),
                 (lambda one: redeb(one, "libmorphd1", leaves), "leave behind .*var/lib/left"),

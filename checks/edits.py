@@ -133,11 +133,9 @@ SPOILED = [
     ("edits_kernels/src/sliding.rt", ("ensures small ", "ensures low "), "edits_kernels: the contract of "),
     ("mw_line/src/rectangles.rt", ("IfOk result (λ r. (f : Raster P)", "IfOk result (λ r. (g : Raster P)"),
      "edits_kernels: the contract of rectangle"),
-    ("mw_core/src/calls.rt", ("(Call.Status name) None self.new)", "(Call.Fetch name) None self.new)"),
-     "edits_machine: the contract of status"),
-    ("edits_machine/src/tasks.rt", ("/// `mw_core::Core::start`.", "/// The core's."), "edits_machine: start names no function"),
-    ("edits_machine/src/tasks.rt", ("    core.ready_count()", "    core.ready_count() + 0"),
-     "edits_machine: ready_count does more than call"),
+    ("mw_grid/src/grid.rt", ("result ≡ tile_at self i", "tile_at self i ≡ result"), "edits_kernels: the contract of rect"),
+    ("edits_kernels/src/tiles.rt", ("/// `mw_grid::Grid::rect`.", "/// The grid's."), "edits_kernels: rect names no function"),
+    ("edits_kernels/src/tiles.rt", ("    grid.rect(i)", "    grid.rect(i + 0)"), "edits_kernels: rect does more than call"),
 ]
 
 

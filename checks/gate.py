@@ -35,7 +35,7 @@ BAD_EDIT = re.compile(r"^.*: BAD EDIT: .*$", re.M)
 BUILDS = tuple(f"{ROOT}/crates/morphd/out/morphd{it}" for it in ("", ".by-rattle"))
 # What replays sessions on each program that it is given, and says in its last line how many; and the words by which it takes no more
 # than a trial build can do in a minute, which is some ten times as slow; None where nothing of it is for a trial build.
-REPLAYS = {"replay_stored_run.py": (), "replay.py": ("--once",), "replay_served.py": None, "fixed_soaks.py": None}
+REPLAYS = {"replay_stored_run.py": (), "replay.py": ("--once",), "corpus.py": ("--once",), "replay_served.py": None, "fixed_soaks.py": None}
 REPLAYED = re.compile(r"(\d+)(?: of \d+)? (?:stored sessions?|cases passed)")
 PASSED = re.compile(r"(\d+) passed")
 PYTHON = [sys.executable, "-B", f"{ROOT}/checks/python_package.py"]

@@ -4,6 +4,7 @@ model and by the header's order of refusals. checks/library.py makes them.
 import collections
 import ctypes
 
+import lent_places
 import library_calls as calls
 import reference_model as model
 
@@ -14,13 +15,14 @@ NUMBERS = {0, 11, 22, 23, 25, 31, 32, 47, FRAME, LEVELS, ONE_WAY}
 COLUMNS = 7
 GREATEST = 2**32 - 1
 # What the numbers in front of an image may be, for each family: pairs of a least and a greatest.
-LIMITS = {"reconstruct": [(0, 1)], "extrema_h": [(0, 1), (1, 65535)], "extrema_regional": [(0, 1)], "area": [(1, GREATEST)],
-          "distance": [(0, 2), (1, GREATEST)]}
+LIMITS = {"reconstruct": [(0, 1)], "extrema_h": [(0, 1), (1, 65535)], "extrema_regional": [(0, 1)], "distance": [(0, 2), (1, GREATEST)]}
+# What those in front of the image of an area operator may be, for a set and for levels of grey.
+LIMITS_OF_AREAS = {"set": [(1, GREATEST)], "u8": [(0, 1), (1, GREATEST)], "u16": [(0, 1), (1, GREATEST)]}
 # Those that take a symmetric element.
-OF_COMPONENTS = ("label", "regions", "area")
+OF_COMPONENTS = ("label", "regions", "components", "area")
 
-# A call: its name, its numbers, its image or its marker and mask, its elements, and the length of `out`.
-Call = collections.namedtuple("Call", "name numbers images bitmaps room")
+# A call: its name, its numbers, its image or its marker and mask, its elements, the length of `out`, and that of `regions`.
+Call = collections.namedtuple("Call", "name numbers images bitmaps room rows", defaults=(0,))
 
 
 def kind_of(name):
@@ -28,37 +30,37 @@ def kind_of(name):
     return name.rpartition("_")[2]
 
 
-def pairs(image):
+def pairs(image, places):
     """An image as a call takes it."""
     levels = [] if image.kind == "set" else [image.maxval]
-    samples = calls.filled(calls.TYPES[calls.sample_type(image.kind)], image.samples)
+    samples = places.array(calls.TYPES[calls.sample_type(image.kind)], image.samples)
     return [image.width, image.height, *levels, samples, len(image.samples)]
 
 
-def made(library, call):
-    """What the library answers, all of `out` with what stands on both sides of it, and how many components it tells."""
-    _, parameters = calls.prototypes()[call.name]
-    out_type = next(it._type_ for it, name in parameters if name == "out")
-    whole = call.room + 2 * calls.MARGIN
-    out = (out_type * whole)(*[calls.UNTOUCHED] * whole)
-    inner = ctypes.cast(ctypes.byref(out, calls.MARGIN * ctypes.sizeof(out_type)), ctypes.POINTER(out_type))
+def made(library, call, places=lent_places.MEMORY):
+    """What the library answers, all of `out`, and of `regions` where it is apart, with what stands on both sides of them, and how many
+    components it tells."""
+    kinds = calls.pointed_at(call.name)
+    out, rows, told = places.results(kinds["out"], call.room), None, places.array(ctypes.c_uint32, [calls.UNTOUCHED])
+    behind = [told] if "components" in kinds else []
+    if "regions" in kinds:
+        rows = places.results(kinds["regions"], call.rows)
+        behind = [rows.lent, call.rows, *behind]
     given = list(call.numbers)
     for image in call.images:
-        given += pairs(image)
+        given += pairs(image, places)
     for b in call.bitmaps:
-        given += [calls.filled(ctypes.c_uint8, b.pixels), len(b.pixels), b.width, b.height, b.x, b.y]
-    told = ctypes.c_uint32(calls.UNTOUCHED)
-    names = [name for _, name in parameters]
-    behind = [ctypes.byref(told)] if "components" in names else []
-    answer = getattr(library, call.name)(*given, inner, call.room, *behind, *[1] * ("components_count" in names))
-    return answer, list(out), told.value
+        given += [places.array(ctypes.c_uint8, b.pixels), len(b.pixels), b.width, b.height, b.x, b.y]
+    answer = getattr(library, call.name)(*given, out.lent, call.room, *behind)
+    return answer, [*out.seen(), *(rows.seen() if rows else [])], told[0]
 
 
 # ---- what a call has to be answered
 
 
 def refusal_of_numbers(call):
-    limits = LIMITS.get(calls.family(call), [])
+    what = calls.family(call)
+    limits = LIMITS_OF_AREAS[kind_of(call.name)] if what == "area" else LIMITS.get(what, [])
     return 0 if all(least <= it <= most for it, (least, most) in zip(call.numbers, limits)) else calls.PARAM
 
 
@@ -93,6 +95,14 @@ def distances(f, metric, top):
     return model.distance(model.SQUARE if metric else model.CROSS, top, f)
 
 
+def area(b, *numbers_and_image):
+    """The large components of a set, or the area opening or the area closing of levels of grey."""
+    *kind, least, f = numbers_and_image
+    if not kind:
+        return model.large_components(b, least, f)
+    return (model.area_closing if kind[0] else model.area_opening)(b, least, f)
+
+
 def value(call):
     """The samples of the result."""
     f, *masks = map(picture, call.images)
@@ -104,7 +114,7 @@ def value(call):
     if what == "extrema_regional":
         return (model.regional_minima if numbers[0] else model.regional_maxima)(*b, f).samples
     if what == "area":
-        return model.large_components(*b, numbers[0], f).samples
+        return area(*b, *numbers, f).samples
     if what == "distance":
         return distances(f, *numbers)
     return {"fill": model.holes_filled, "clear_border": model.border_cleared}[what](*b, f).samples
@@ -117,21 +127,26 @@ def wanted(call):
         return first, None, None
     if what == "label":
         return 0, *model.labelling(calls.offsets(call.bitmaps[0]), picture(call.images[0]))
-    if what != "regions":
+    if what not in ("regions", "components"):
         return 0, value(call), None
-    found = [model.region(it) for it in model.components(calls.offsets(call.bitmaps[0]), picture(call.images[0]))]
-    if call.room < COLUMNS * len(found):
+    b, f = calls.offsets(call.bitmaps[0]), picture(call.images[0])
+    found = [model.region(it) for it in model.components(b, f)]
+    if (call.room if what == "regions" else call.rows) < COLUMNS * len(found):
         return calls.LENGTH, None, len(found)
-    return 0, sum(found, []), len(found)
+    rows = sum(found, [])
+    return 0, rows if what == "regions" else (model.labelling(b, f)[0], rows), len(found)
 
 
 def differs(told, call):
     """Whether the library answered or wrote something else than it has to."""
     answer, result, count = wanted(call)
-    rest = call.room - len(result or [])
     margin = [calls.UNTOUCHED] * calls.MARGIN
-    inner = [*(result or []), *[calls.UNTOUCHED] * rest]
-    return told != (answer, [*margin, *inner, *margin], calls.UNTOUCHED if count is None else count)
+    both = result if isinstance(result, tuple) else (result, None)
+    rooms = (call.room, call.rows) if calls.family(call) == "components" else (call.room,)
+    whole = []
+    for room, each in zip(rooms, both):
+        whole += [*margin, *(each or []), *[calls.UNTOUCHED] * (room - len(each or [])), *margin]
+    return told != (answer, whole, calls.UNTOUCHED if count is None else count)
 
 
 def spoiled(told):
@@ -179,7 +194,9 @@ class Writer(calls.Writer):
 
     def numbers_of(self, what, image):
         top = self.chance.choice((1, 2, 5, image.maxval, 65535))
-        return {"reconstruct": [self.chance.randrange(2)], "extrema_h": [self.chance.randrange(2), top], "area": [self.chance.randint(1, 9)],
+        if what == "area":
+            return [*[self.chance.randrange(2)] * (image.kind != "set"), self.chance.randint(1, 9)]
+        return {"reconstruct": [self.chance.randrange(2)], "extrema_h": [self.chance.randrange(2), top],
                 "extrema_regional": [self.chance.randrange(2)], "distance": [self.chance.randrange(3), top]}.get(what, [])
 
     def call(self):
@@ -192,9 +209,9 @@ class Writer(calls.Writer):
             images = [other._replace(maxval=image.maxval), image]
         bitmaps = [] if what == "distance" else [self.around(what)]
         room = len(image.samples)
-        if what == "regions":
-            room = self.chance.choice((0, COLUMNS, COLUMNS * room, COLUMNS * room + 3))
-        call = Call(name, self.numbers_of(what, image), images, bitmaps, room)
+        rows = self.chance.choice((0, COLUMNS, COLUMNS * room, COLUMNS * room + 3))
+        rooms = {"regions": (rows, 0), "components": (room, rows)}.get(what, (room, 0))
+        call = Call(name, self.numbers_of(what, image), images, bitmaps, *rooms)
         return self.spoiled(call) if self.chance.randrange(self.odd) == 0 else call
 
     def other_marker(self, marker, mask):
@@ -224,6 +241,14 @@ class Writer(calls.Writer):
 # ---- full size
 
 
+def of_areas(kind, level, *top):
+    """The same of area operators: a component of all samples is large, or just too small."""
+    all_of_it = 1 << 24
+    if kind == "set":
+        return [([all_of_it], 1), ([all_of_it + 1], 0)]
+    return [([0, all_of_it], level), ([0, all_of_it + 1], 0), ([1, all_of_it], level), ([1, all_of_it + 1], *top)]
+
+
 def of_one_value(name):
     """Calls on pictures of as many samples as there may be, all of one value, and the sample that each result has throughout."""
     kind = kind_of(name)
@@ -233,13 +258,13 @@ def of_one_value(name):
     return level, top, {
         "reconstruct": [([0], level), ([1], level)], "fill": [([], level)], "clear_border": [([], 0)],
         "extrema_h": [([0, 50], level - 50), ([1, 50], level + 50)], "extrema_regional": [([0], 1), ([1], 1)], "label": [([], 1)],
-        "area": [([1 << 24], 1), ([(1 << 24) + 1], 0)], "distance": [([it, 9], 9) for it in range(3)],
+        "components": [([], 1)], "area": of_areas(kind, level, *top), "distance": [([it, 9], 9) for it in range(3)],
     }.get(what, [])
 
 
 def full_size(library):
-    """Makes each call on 4096 x 4096 and 8192 x 2048 samples; how many calls there were, or what differs."""
-    count, ones = 0, (ctypes.c_uint8 * 9)(*[1] * 9)
+    """Makes each call on 4096 x 4096 and 8192 x 2048 samples between fences; how many calls there were, or what differs."""
+    count, ones, between = 0, (ctypes.c_uint8 * 9)(*[1] * 9), lent_places.BEFORE_A_FENCE
     for width, height in ((4096, 4096), (8192, 2048)):
         image = calls.Array("set", width, height, 1, bytes([1]) * (1 << 24))
         call = Call("morphd_regions_set", [], [image], [calls.Bitmap(3, 3, 1, 1, [1] * 9)], COLUMNS)
@@ -247,22 +272,25 @@ def full_size(library):
         if made(library, call) != (0, [*margin, 0, 0, 1 << 24, 0, 0, width - 1, height - 1, *margin], 1):
             return "regions on %d x %d" % (width, height)
         count += 1
-    for name, (_, parameters) in calls.prototypes().items():
+    for name in calls.prototypes():
         if not calls.OF_GRAINS.match(name):
             continue
         level, top, wanted = of_one_value(name)
         sample = calls.TYPES[calls.sample_type(kind_of(name))]
-        samples = (sample * (1 << 24)).from_buffer_copy(bytes(sample(level)) * (1 << 24))
-        out_type = next(it._type_ for it, at in parameters if at == "out")
-        out, told = (out_type * (1 << 24))(), ctypes.c_uint32()
+        samples = between.places(sample, 1 << 24)
+        samples[:] = (sample * (1 << 24)).from_buffer_copy(bytes(sample(level)) * (1 << 24))
+        kinds = calls.pointed_at(name)
+        out, told, row = between.places(kinds["out"], 1 << 24), ctypes.c_uint32(), between.places(ctypes.c_uint32, COLUMNS)
+        has_row = "regions" in kinds
         for width, height in ((4096, 4096), (8192, 2048)):
             image = [width, height, *top, samples, 1 << 24]
             given = image * (2 if calls.family(Call(name, None, None, None, None)) == "reconstruct" else 1)
             element = [] if "distance" in name else [ones, 9, 3, 3, 1, 1]
-            behind = [ctypes.byref(told)] if parameters[-1][1] == "components" else []
+            behind = [row, COLUMNS] * has_row + [ctypes.byref(told)] * ("components" in kinds)
             for numbers, value_made in wanted:
                 answer = getattr(library, name)(*numbers, *given, *element, out, 1 << 24, *behind)
-                if answer or bytes(out) != bytes(out_type(value_made)) * (1 << 24):
+                is_told = not has_row or list(row) == [0, 0, 1 << 24, 0, 0, width - 1, height - 1]
+                if answer or not is_told or bytes(out) != bytes(kinds["out"](value_made)) * (1 << 24):
                     return "%s %r on %d x %d: answer %d" % (name, numbers, width, height, answer)
                 count += 1
     return count

@@ -1,6 +1,7 @@
 #!/usr/bin/env python3
 """Compares include/morphd.h with the functions that are proved: which there are; the type, the order and the name of each
-parameter and of each answer; the numbers of operations and refusals; and the version.
+parameter and of each answer; the numbers of operations and refusals; and the version. One function is not proved: it tells which build
+runs, and stands where that is chosen (library/picker.c).
 
     python3 checks/header.py
     python3 checks/header.py --test    spoils copies of both sides, and sees that each is told
@@ -14,16 +15,19 @@ import sys
 
 ROOT = pathlib.Path(__file__).resolve().parent.parent
 HEADER = "include/morphd.h"
+PICKER = "library/picker.c"
 GEODESIC = "crates/mw_c_geodesic/specs"
-CRATES = re.compile(r"mw_c(_calls|_arrays|_geodesic)?")
+LEVELS = "crates/mw_c_geodesic_levels/specs"
+CRATES = re.compile(r"mw_c(_calls|_arrays|_geodesic|_geodesic_levels)?")
 C_FUNCTION = re.compile(r"^(\w+) (morphd_\w+)\(([^;]*)\);", re.MULTILINE)
+PICKER_FUNCTION = re.compile(r"^(\w+) (morphd_\w+)\(void\) {$", re.MULTILINE)
 OWN_FUNCTION = re.compile(r'^#\[unsafe\(no_mangle\)\]\npub extern "C" fn (\w+)\(([^)]*)\) -> (\w+)$', re.MULTILINE)
 CONSTANT = re.compile(r"^ +MORPHD_(\w+) = (\d+),?", re.MULTILINE)
 # What C calls the length of an array; of any other it has the array's name and _count.
 COUNTS = {"samples": "count", "pixels": "count"}
 OPERATORS = {"erosion": "ERODE", "dilation": "DILATE", "opening": "OPEN", "closing": "CLOSE", "gradient": "GRADIENT",
              "white_top_hat": "WHITE_TOP_HAT", "black_top_hat": "BLACK_TOP_HAT", "rank": "RANK"}
-KINDS = {"regional_maxima": "MAXIMA", "regional_minima": "MINIMA"}
+KINDS = {"regional_maxima": "MAXIMA", "regional_minima": "MINIMA", "area_opening": "AREA_OPENING", "area_closing": "AREA_CLOSING"}
 METHODS = {"reconstruction": "BY_DILATION", "reconstruction_by_erosion": "BY_EROSION"}
 METRICS = {"CityBlock": "CITY_BLOCK", "Chessboard": "CHESSBOARD", "SquaredEuclid": "SQUARED_EUCLID"}
 # The refusals that no command is answered, by their names in Told.antt.
@@ -36,7 +40,7 @@ def texts():
     """Both sides: the text of each file, by its path."""
     homes = [it for it in sorted((ROOT / "crates").iterdir()) if CRATES.fullmatch(it.name)]
     files = [path for home in homes for part in ("src", "specs") for path in sorted((home / part).rglob("*")) if path.is_file()]
-    files += [ROOT / HEADER, ROOT / "crates/mw_model/specs/Codes.antt"]
+    files += [ROOT / HEADER, ROOT / PICKER, ROOT / "crates/mw_model/specs/Codes.antt"]
     return {str(path.relative_to(ROOT)): path.read_text(encoding="utf-8") for path in files}
 
 
@@ -86,10 +90,15 @@ def exported(sources):
 
 def faults_of_functions(sources):
     ours, theirs = exported(sources), declared(sources[HEADER])
+    chosen = {name: (answer, []) for answer, name in PICKER_FUNCTION.findall(sources[PICKER])}
+    for name in sorted(chosen):
+        if name in ours or theirs.get(name) != chosen[name]:
+            yield f"{name} of {PICKER} is {'proved too' if name in ours else f'{theirs.get(name)} in the header'}"
+    theirs = {name: it for name, it in theirs.items() if name not in chosen}
     told = len(re.findall(r"\bmorphd_\w+\s*\(", without_comments(sources[HEADER])))
     written = sum(text.count('extern "C"') for path, text in sources.items() if path.endswith(".rt"))
-    if (told, written) != (len(theirs), len(ours)) or not ours:
-        yield f"of {told} functions of the header {len(theirs)} can be read, and {len(ours)} of {written} proved ones"
+    if (told - len(chosen), written) != (len(theirs), len(ours)) or not ours or not chosen:
+        yield f"of {told} functions of the header {len(theirs) + len(chosen)} can be read, and {len(ours)} of {written} proved ones"
     for name in sorted({*ours, *theirs}):
         if name not in theirs or name not in ours:
             yield f"{name} is {'proved' if name in ours else 'in the header'} alone"
@@ -127,10 +136,9 @@ def metrics(sources):
     return {METRICS.get(name, name): int(number) for number, name in [*rows, *((len(rows), it) for it in last)]}
 
 
-def kinds(sources):
-    """The number of each kind of extrema, by the definition of what it makes."""
-    text = sources.get(f"{GEODESIC}/LevelsChanges.antt", "")
-    body = "".join(re.findall(r"^regional_extrema kind e f = (.*)$", text, re.MULTILINE))
+def kinds(sources, file, word):
+    """The number of each kind of extrema or of area operators, by the definition of what it makes."""
+    body = "".join(re.findall(rf"^{word} kind e (?:least )?f = (.*)$", sources.get(f"{LEVELS}/{file}.antt", ""), re.MULTILINE))
     found = re.findall(r"kind == (\d+) then (\w+) ", body)
     last = re.findall(r"else (\w+) ", body)
     return {KINDS.get(name, name): int(number) for number, name in [*found, *((len(found), it) for it in last)]}
@@ -148,7 +156,8 @@ def answers(sources):
 
 def faults_of_numbers(sources):
     header = sources[HEADER]
-    wanted = {**operations(sources), **methods(sources), **metrics(sources), **kinds(sources), **answers(sources)}
+    extrema, areas = kinds(sources, "Changes", "regional_extrema"), kinds(sources, "Areas", "area_filtered")
+    wanted = {**operations(sources), **methods(sources), **metrics(sources), **extrema, **areas, **answers(sources)}
     found = {name: int(number) for name, number in CONSTANT.findall(header)}
     for name in sorted({*wanted, *found}):
         if wanted.get(name) != found.get(name):
@@ -177,6 +186,11 @@ SPOILED = [
     ("header", "int32_t morphd_skeleton(", "int32_t morphd_marks(", "morphd_skeleton is proved alone"),
     ("header", "uint32_t morphd_version(void);", "", "morphd_version is proved alone"),
     ("header", "uint32_t morphd_version(void);", "uint32_t morphd_version(void);\nint32_t morphd_more(void);", "morphd_more"),
+    ("header", "uint32_t morphd_build(void);", "", "morphd_build of library/picker.c is None"),
+    ("header", "uint32_t morphd_build(void);", "uint64_t morphd_build(void);", "morphd_build"),
+    ("picker", "uint32_t morphd_build(void) {", "int32_t morphd_build(void) {", "morphd_build"),
+    ("picker", "uint32_t morphd_build(void) {", "static uint32_t morphd_build(void) {", "morphd_build is in the header alone"),
+    ("picker", "uint32_t morphd_build(void) {", "uint32_t morphd_version(void) {", "morphd_version of library/picker.c is proved too"),
     ("header", "int32_t morphd_restore_u8(", "int32_t  morphd_restore_u8 (", "can be read"),
     ("header", "MORPHD_OPEN = 2", "MORPHD_OPEN = 3", "MORPHD_OPEN"),
     ("header", "    MORPHD_CLOSE = 3, ", "", "MORPHD_CLOSE is missing"),
@@ -191,6 +205,7 @@ SPOILED = [
     ("proved", "operation == 2 then opening", "operation == 2 then closing", "MORPHD_OPEN"),
     ("header", "uint32_t *components);", "uint32_t components);", "components"),
     ("header", "MORPHD_MINIMA = 1", "MORPHD_MINIMA = 0", "MORPHD_MINIMA"),
+    ("header", "MORPHD_AREA_CLOSING = 1", "MORPHD_AREA_CLOSING = 0", "MORPHD_AREA_CLOSING"),
     ("header", "MORPHD_BY_EROSION = 1", "MORPHD_BY_EROSION = 0", "MORPHD_BY_EROSION"),
     ("header", "MORPHD_CHESSBOARD = 1", "MORPHD_CHESSBOARD = 2", "MORPHD_CHESSBOARD"),
     ("header", "MORPHD_ONE_WAY = 55", "MORPHD_ONE_WAY = 53", "MORPHD_ONE_WAY"),
@@ -201,8 +216,9 @@ SPOILED = [
 
 
 def test(sources):
+    sides = {HEADER: "header", PICKER: "picker"}
     for side, old, new, wanted in SPOILED:
-        paths = [path for path, text in sources.items() if (path == HEADER) == (side == "header") and old in text
+        paths = [path for path, text in sources.items() if sides.get(path, "proved") == side and old in text
                  and (not path.endswith(".rt") or 'extern "C"' in text)]
         if not paths:
             sys.exit(f"there is no {old!r} to spoil")

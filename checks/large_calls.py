@@ -8,6 +8,7 @@ import ctypes
 import sys
 
 import bit_model
+import lent_places
 import library_calls as calls
 
 ERODE, DILATE, OPEN, CLOSE, GRADIENT, WHITE, BLACK, RANK = range(8)
@@ -116,20 +117,17 @@ def name_of(call):
 
 
 def made(library, call, room):
-    """What the library answers, and the bytes of `out` with what stands on both sides of it, before and behind."""
-    f, name = call.picture, name_of(call)
-    out_type = dict(reversed(it) for it in calls.prototypes()[name][1])["out"]._type_
-    size, margin = ctypes.sizeof(out_type), calls.MARGIN
-    out = bytearray([calls.UNTOUCHED]) * ((room + 2 * margin) * size)
-    inner = (out_type * (room + margin)).from_buffer(out, margin * size)
-    sample = calls.TYPES[calls.sample_type(f.kind)]
-    samples = (sample * len(f.indices)).from_buffer_copy(array_of(f.indices, f.levels, f.kind))
+    """What the library answers, and the bytes of `out`. The arrays end before a page that nobody may touch, and those whose bytes
+    fill pages begin behind one too."""
+    f, name, places = call.picture, name_of(call), lent_places.BEFORE_A_FENCE
+    out = places.results(calls.pointed_at(name)["out"], room)
+    samples = places.places(calls.TYPES[calls.sample_type(f.kind)], len(f.indices))
+    memoryview(samples).cast("B")[:] = array_of(f.indices, f.levels, f.kind)
     given = [*call.numbers, f.width, f.height, *([] if f.kind == "set" else [f.levels[-1]]), samples, len(f.indices)]
     for b in call.bitmaps:
-        given += [calls.filled(ctypes.c_uint8, b.pixels), len(b.pixels), b.width, b.height, b.x, b.y]
-    answer = getattr(library, name)(*given, inner, room)
-    del inner
-    return answer, bytes(out)
+        given += [places.array(ctypes.c_uint8, b.pixels), len(b.pixels), b.width, b.height, b.x, b.y]
+    answer = getattr(library, name)(*given, out.lent, room)
+    return answer, bytes(out.lent)
 
 
 def room_of(call):
@@ -142,8 +140,7 @@ def room_of(call):
 def differs(library, call):
     """Whether the library answers or writes something else than it has to."""
     result, room = wanted(call), room_of(call)
-    margin = bytes([calls.UNTOUCHED]) * (calls.MARGIN * (len(result) // room))
-    return made(library, call, room) != (0, margin + result + margin)
+    return made(library, call, room) != (0, result)
 
 
 def models_differ(call):

@@ -1,14 +1,18 @@
 #!/usr/bin/env python3
 """Holds a built libmorphd against the reference model (checks/reference_model.py) on random images, elements, origins and numbers,
-with and without faults, from one thread and from four; against checks/bit_model.py by elements of up to 255 x 255 pixels and on
-pictures up to the limit; refuses each of its allocations in turn, and counts them; looks which names it shows; and runs the
-programs of docs/LIBRARY.md, the one in C also with the sanitizers of addresses and of undefined behaviour.
+with and without faults, from one thread and from four, in arrays that mostly stand against a page that nobody may touch; against
+checks/bit_model.py by elements of up to 255 x 255 pixels and on pictures up to the limit; refuses each of its allocations in turn,
+and counts them; looks which names it shows; and runs the programs of docs/LIBRARY.md, the one in C also with the sanitizers of
+addresses and of undefined behaviour. All of it is done with each build of the library, and which of them is picked is tried on
+processors that are pretended.
 
     python3 checks/library.py out [MORPHD]
 
 `out` is the folder that `make library` makes. Where a built morphd is given, `morphd batch` has to make the same of the same
-images. It begins by spoiling what the library makes, and stops where it does not notice that. It needs a C compiler.
+images. It begins by spoiling what the library makes, and stops where it does not notice that. It needs a C compiler, and fails at its
+end where the processor takes no more than the build for x86-64-v2.
 """
+import faulthandler
 import pathlib
 import random
 import re
@@ -19,13 +23,14 @@ import threading
 
 import grain_calls
 import large_calls
+import lent_places
 import library_calls as calls
 import library_links
 import library_memory
 import reference_model
 
 ROOT = calls.ROOT
-CALLS, BATCHES = 3000, 200
+CALLS, BATCHES, MEDIANS = 3000, 200, 300
 NUMBERS = {0, 11, 22, 23, 25, 31, 32, 45, 46, 47}
 
 
@@ -53,7 +58,7 @@ def one_by_one(library, chance):
     writer, seen = calls.Writer(chance), {}
     for number in range(CALLS):
         call = writer.call()
-        made = calls.made(library, call)
+        made = calls.made(library, call, chance.choice(lent_places.ALL))
         if differs(made, call):
             sys.exit("DIFFERS: %r\nmade %r\nwanted %r" % (call, made, calls.wanted(call)))
         if number < 100 and not all(differs(it, call) for it in spoiled(made)):
@@ -70,7 +75,7 @@ def grains_one_by_one(library, chance):
     writer, seen = grain_calls.Writer(chance), {}
     for number in range(CALLS):
         call = writer.call()
-        told = grain_calls.made(library, call)
+        told = grain_calls.made(library, call, chance.choice(lent_places.ALL))
         if grain_calls.differs(told, call):
             sys.exit("DIFFERS: %r\nmade %r\nwanted %r" % (call, told, grain_calls.wanted(call)))
         if number < 100 and not all(grain_calls.differs(it, call) for it in grain_calls.spoiled(told)):
@@ -100,6 +105,16 @@ def side_by_side(library, chance):
         thread.join()
     if wrong:
         sys.exit("DIFFERS from four threads: %r" % (wrong[0],))
+
+
+def medians(library, chance):
+    """Medians under squares of 3 x 3 and 5 x 5, in frames from one pixel to 200 x 70: how many calls."""
+    writer = calls.Writer(chance)
+    for _ in range(MEDIANS):
+        call = writer.median()
+        if differs(calls.made(library, call, chance.choice(lent_places.ALL)), call):
+            sys.exit("DIFFERS: medians %r of %d x %d samples %s" % (call.numbers, call.image.width, call.image.height, call.image.kind))
+    return MEDIANS
 
 
 def rows_beside_whole(library, chance):
@@ -207,9 +222,17 @@ def documents(out, folder):
     subprocess.run(["c++", "-Wall", "-Wextra", "-Werror", "-fsyntax-only", "-x", "c++", ROOT / "include/morphd.h"], check=True)
 
 
-def main():
-    out = pathlib.Path(sys.argv[1]).resolve()
-    library, chance = calls.opened(out / "libmorphd.so"), random.Random(41)
+def picker(folder):
+    """Which build is picked, on processors that are pretended."""
+    said = subprocess.run([built(folder, "picker", [ROOT / "checks/picker.c"], "-O1")], capture_output=True, text=True)
+    if said.returncode:
+        sys.exit("the picker: " + said.stdout)
+    return said.stdout.strip()
+
+
+def hold(library, out, program):
+    """All of the above with one build, which MORPHD_CPU tells the programs in C."""
+    chance = random.Random(41)
     if library.morphd_version() != 1:
         sys.exit("the version is not 1")
     seen = one_by_one(library, chance)
@@ -224,6 +247,7 @@ def main():
     side_by_side(library, chance)
     print("four threads at once make the same")
     print("%d calls for rows beside the whole result" % rows_beside_whole(library, chance))
+    print("%d medians under squares beside the reference model" % medians(library, chance))
     print(large_calls.check(library, chance))
     with tempfile.TemporaryDirectory() as folder:
         print(library_links.check(out, folder))
@@ -232,8 +256,29 @@ def main():
         print(library_memory.check(said_by(out, folder, "counted_calls")))
         documents(out, folder)
     print("the programs of docs/LIBRARY.md print what stands there")
-    if len(sys.argv) > 2:
-        print("%d calls beside morphd batch" % beside_program(library, sys.argv[2], chance))
+    if program:
+        print("%d calls beside morphd batch" % beside_program(library, program, chance))
+
+
+def main():
+    out, program = pathlib.Path(sys.argv[1]).resolve(), sys.argv[2] if len(sys.argv) > 2 else None
+    with tempfile.TemporaryDirectory() as folder:
+        print(picker(folder))
+    if not lent_places.fences_stop():
+        sys.exit("a read past an array's end stops nobody")
+    faulthandler.enable()
+    left_out = []
+    for cpu, number in calls.BUILDS.items():
+        library = calls.opened(out / "libmorphd.so", cpu)
+        if library.morphd_build() == number:
+            print("the build for x86-64-%s:" % cpu, flush=True)
+            hold(library, out, program)
+        elif number == 2:
+            sys.exit("MORPHD_CPU=v2 does not take the build for x86-64-v2")
+        else:
+            left_out.append("x86-64-" + cpu)
+    if left_out:
+        sys.exit("this processor takes no build for %s, so it was not tried" % " and ".join(left_out))
 
 
 if __name__ == "__main__":

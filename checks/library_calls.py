@@ -3,23 +3,30 @@ what each of them has to be answered, by the reference model and by the header's
 """
 import collections
 import ctypes
+import os
 import pathlib
 import re
+import shutil
+import tempfile
 
+import lent_places
 import reference_model
+from lent_places import MARGIN, UNTOUCHED
 
 ROOT = pathlib.Path(__file__).resolve().parent.parent
 TYPES = {"int32_t": ctypes.c_int32, "uint32_t": ctypes.c_uint32, "uint8_t": ctypes.c_uint8, "uint16_t": ctypes.c_uint16,
          "uint64_t": ctypes.c_uint64, "size_t": ctypes.c_size_t}
 PROTOTYPE = re.compile(r"^(u?int32_t) (morphd_\w+)\(([^;]*)\);", re.MULTILINE)
+# What is told of the library itself.
+OF_ITSELF = ("morphd_version", "morphd_build")
+# Each build of the library, by what MORPHD_CPU has to be for it, and the number that it tells.
+BUILDS = {"v3": 3, "v2": 2}
 # The calls that checks/grain_calls.py makes.
-OF_GRAINS = re.compile(r"morphd_(reconstruct|fill|clear_border|extrema|label|regions|area|distance)_")
+OF_GRAINS = re.compile(r"morphd_(reconstruct|fill|clear_border|extrema|label|regions|components|area|distance)_")
 FLAT = ("ERODE", "DILATE", "OPEN", "CLOSE", "GRADIENT", "WTOPHAT", "BTOPHAT", "RANK")
 # The numbers of those of one step, of whose results rows are made alone.
 OF_ONE_STEP = (0, 1, 4, 7)
 LENGTH, SIZE, MAXVAL, SAMPLE, ORIGIN, EMPTY, NO_ORIGIN, OVERLAP, PARAM = 11, 22, 23, 25, 31, 32, 45, 46, 47
-# What stands in `out` before a call, and on both sides of it.
-UNTOUCHED, MARGIN = 0xA5, 3
 
 # An image as a call takes it: "u8", "u16" or "set"; and an element.
 Array = collections.namedtuple("Array", "kind width height maxval samples")
@@ -38,34 +45,39 @@ def prototypes():
     return found
 
 
-def opened(path):
-    """The library, each of its functions with the types of the header."""
-    library = ctypes.CDLL(str(path))
+def loaded(path, cpu):
+    """The library with MORPHD_CPU as it is told: of a copy, since a process loads each file once, and picks a build then."""
+    os.environ["MORPHD_CPU"] = cpu
+    with tempfile.TemporaryDirectory() as folder:
+        return ctypes.CDLL(shutil.copy(path, folder))
+
+
+def opened(path, cpu):
+    """One build of the library, each of its functions with the types of the header."""
+    library = loaded(path, cpu)
     for name, (answer, parameters) in prototypes().items():
         function = getattr(library, name)
         function.restype, function.argtypes = answer, [it for it, _ in parameters]
     return library
 
 
-def filled(kind, samples):
-    """A ctypes array of samples; it has one place more, so that it is never empty."""
-    return (kind * (len(samples) + 1))(*samples)
+def pointed_at(name):
+    """The types of samples of those of a call's parameters that are arrays, by their names."""
+    _, parameters = prototypes()[name]
+    return {it: kind._type_ for kind, it in parameters if hasattr(kind, "contents")}
 
 
-def made(library, call):
+def made(library, call, places=lent_places.MEMORY):
     """What the library answers, and all of `out` with what stands on both sides of it."""
-    _, parameters = prototypes()[call.name]
-    kinds = {name: it._type_ for it, name in parameters if hasattr(it, "contents")}
-    out = (kinds["out"] * (call.room + 2 * MARGIN))(*[UNTOUCHED] * (call.room + 2 * MARGIN))
-    inner = ctypes.cast(ctypes.byref(out, MARGIN * ctypes.sizeof(kinds["out"])), ctypes.POINTER(kinds["out"]))
     image = call.image
+    out = places.results(pointed_at(call.name)["out"], call.room)
     levels = [] if image.kind == "set" else [image.maxval]
-    samples = filled(TYPES[sample_type(image.kind)], image.samples)
+    samples = places.array(TYPES[sample_type(image.kind)], image.samples)
     given = [*call.numbers, image.width, image.height, *levels, samples, len(image.samples)]
     for b in call.bitmaps:
-        given += [filled(ctypes.c_uint8, b.pixels), len(b.pixels), b.width, b.height, b.x, b.y]
-    answer = getattr(library, call.name)(*given, inner, call.room)
-    return answer, list(out)
+        given += [places.array(ctypes.c_uint8, b.pixels), len(b.pixels), b.width, b.height, b.x, b.y]
+    answer = getattr(library, call.name)(*given, out.lent, call.room)
+    return answer, out.seen()
 
 
 def sample_type(kind):
@@ -195,7 +207,8 @@ class Writer:
     """Writes random calls; one in `odd` has a fault or more."""
 
     def __init__(self, chance, odd=4):
-        self.chance, self.odd, self.names = chance, odd, sorted(it for it in prototypes() if it != "morphd_version" and not OF_GRAINS.match(it))
+        self.chance, self.odd = chance, odd
+        self.names = sorted(it for it in prototypes() if it not in OF_ITSELF and not OF_GRAINS.match(it))
 
     def image(self, kind, most, sides=None):
         width, height = sides or (self.chance.randint(1, 17), self.chance.randint(1, 13))
@@ -247,6 +260,16 @@ class Writer:
         numbers = [*whole.numbers, self.chance.randrange(whole.image.height)]
         call = whole._replace(name=whole.name.replace("flat", "flat_rows"), numbers=numbers)
         return call._replace(room=self.room(call))
+
+    def median(self):
+        """A call for medians under a square with its origin in the middle: the whole result, or some rows of it."""
+        kind, reach = self.chance.choice(("u8", "u16")), self.chance.choice((1, 2))
+        side = 2 * reach + 1
+        image = self.image(kind, 65535, (self.chance.randint(1, 200), self.chance.randint(1, 70)))
+        square = Bitmap(side, side, reach, reach, [1] * (side * side))
+        numbers = [FLAT.index("RANK"), side * side // 2 + 1]
+        whole = Call("morphd_flat_" + kind, numbers, image, [square], len(image.samples))
+        return self.chance.choice((whole, self.rows(whole)))
 
     def spoiled(self, call):
         """The call with one fault or more."""

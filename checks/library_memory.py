@@ -39,6 +39,26 @@ MOST = {
     "skeleton_254_levels": (2.75, 0, 4148, 11066848),
     "restore_254_levels": (1.5, 0, 4214, 5840280),
     "spectrum_u8_32_levels": (4, MIB / 2, 20846, 4372040),
+    # of what grains are measured by 6 bytes are wanted, and 8 of area operators on levels; beside them stand 4 bytes for each level. What is
+    # gathered of each component of a set is over that
+    "reconstruction_u8": (6, MIB / 2, 10, 25219680),
+    "reconstruction_u16": (6, MIB / 2, 10, 25493608),
+    "reconstruction_set": (6.5, MIB / 2, 13, 53481672),
+    "fill_u8": (6, MIB / 2, 10, 25216104),
+    "fill_u16": (6, MIB / 2, 10, 25493624),
+    "clear_border_set": (6.375, MIB / 2, 10, 52433008),
+    "h_minima_u8": (6, MIB / 2, 10, 25215960),
+    "regional_minima_u16": (6, MIB / 2, 12, 25493608),
+    "label_four": (6.25, MIB / 2, 7, 51384384),
+    "label_eight": (6.25, MIB / 2, 7, 51384400),
+    "regions_eight": (6.25, MIB / 2, 8, 51384440),
+    "components_eight": (6.25, MIB / 2, 8, 51384440),
+    "area_opening_u8": (8, MIB / 2, 7, 8389736),
+    "area_closing_u16": (8, MIB / 2, 7, 8650840),
+    "area_set": (8.75, MIB / 2, 11, 73404504),
+    "distance_city_block": (4.25, MIB / 2, 3, 34623488),
+    "distance_chessboard": (4.25, MIB / 2, 3, 34623488),
+    "distance_squared_euclid": (4.25, MIB / 2, 5, 34656272),
 }
 
 

@@ -18,7 +18,7 @@ import sys
 import tempfile
 
 ROOT = os.path.dirname(os.path.dirname(os.path.realpath(__file__)))
-TARGETS = ("check-dist", "check-library", "check-python", "memory", "soak")
+TARGETS = ("check-dist", "check-library", "check-python", "memory", "soak", "races")
 KEPT = "checks/passed.txt"
 ALL_ELSE = (".", f":(exclude){KEPT}")
 

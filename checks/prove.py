@@ -4,8 +4,10 @@
     python3 checks/prove.py [--jobs N] CRATE..
 
 A library is proved and built; a program is built and runs once, on its files `args` and `stdin`; the tests of a crate of
-tests are proved and run. It prints how many crates are done, which run, and about how long the rest will take: by what each
-crate took when the gate was timed (checks/proof_times.txt), by how fast this machine has been so far, and by the longest chain.
+tests are proved and run. A library for C is also built for other processors, as `out/libNAME.CPU.a`: a proof knows of none, so the
+second build takes what the first one has kept of it. It prints how many crates are done, which run, and about how long the rest will
+take: by what each crate took when the gate was timed (checks/proof_times.txt), by how fast this machine has been so far, and by the
+longest chain.
 
 `rt` locks a crate and all crates below it for as long as it works. So each crate is proved in a folder of its own, with
 copies of its sources, with links to what was proved of the crates below it, and with the crate's own `out/`, which goes
@@ -44,6 +46,8 @@ SECONDS_AS_IT_WAS = 4
 # The seconds of timed work after which this machine's own pace counts as much as that of the timed one.
 SECONDS_TO_TRUST = 120
 MOST_JOBS = 4
+# What a library for C is built for besides the processors that `rt` builds for by itself.
+MORE_CPUS = ("x86-64-v3",)
 
 
 def needs_by_crate(root=ROOT):
@@ -129,7 +133,9 @@ class Crate:
         # Of a crate that is only needed by others the library alone is wanted.
         self.is_tested = is_wanted and any("#[test]" in it for file, it in texts.items() if file.endswith(".rt"))
         self.is_program = os.path.isfile(f"{self.home}/src/main.rt")
-        self.run = None
+        self.cpus = MORE_CPUS if any("staticlib" in it.partition(":")[0].split() for it in rows_of({name})) else ()
+        # The build for the processor that `rt` takes by itself comes last, and keeps the name that `rt` gives each.
+        self.run, self.took, self.builds = None, 0, [*self.cpus, None]
         self.seconds = SECONDS_AS_IT_WAS if self.is_as_it_was() else self.timed()
 
     def timed(self):
@@ -153,7 +159,7 @@ class Crate:
     def read_sum(self):
         """A sum of all that is read to prove and build the crate."""
         names = sorted({self.name, *self.below})
-        head = [kit(), *self.words(1), *rows_of(names)]
+        head = [kit(), *self.words(1), *self.cpus, *rows_of(names)]
         return sum_of([path for name in names for path in sorted(sources(name))] + [f"{self.home}/{it}" for it in RUN_ON], head)
 
     def is_as_proved(self):
@@ -194,18 +200,30 @@ class Crate:
         self.jobs, self.began = jobs, time.monotonic()
         self.furnish()
         self.said = open(self.said_file, "w+", errors="replace")
+        self.begin()
+
+    def begin(self):
+        """Begins the next build; that of a library for C for one more processor goes over the proof that the one before has kept."""
+        words = self.words(self.jobs) + (["--cpu", self.builds[0]] if self.builds[0] else [])
         given = f"{self.home}/stdin"
         with open(given if self.is_program and os.path.isfile(given) else os.devnull, "rb") as stdin:
             how = {"stdin": stdin, "stdout": self.said, "stderr": subprocess.STDOUT}
-            self.run = subprocess.Popen(self.words(jobs), cwd=self.place, **how)
+            self.run = subprocess.Popen(words, cwd=self.place, **how)
 
     def ended(self):
-        """Whether the run has ended; then what it took stands in `took`: more than its processor seconds on a busy machine."""
+        """Whether all its runs have ended; then what they took stands in `took`: more than processor seconds on a busy machine."""
         ended, status, used = os.wait4(self.run.pid, os.WNOHANG)
         if not ended:
             return False
         self.run.returncode = os.waitstatus_to_exitcode(status)
-        self.took = max(used.ru_utime + used.ru_stime, time.monotonic() - self.began)
+        self.took += used.ru_utime + used.ru_stime
+        cpu = self.builds.pop(0)
+        if cpu and self.is_well():
+            archive = f"{self.place}/out/lib{self.name}"
+            os.replace(f"{archive}.a", f"{archive}.{cpu}.a")
+            self.begin()
+            return False
+        self.took = max(self.took, time.monotonic() - self.began)
         return True
 
     def is_well(self):
@@ -395,8 +413,9 @@ def prove(wanted, needs, jobs, room):
 
 CALLED = """#!/bin/sh
 if [ "$1" = version ]; then cat "$ROOM/kit"; exit; fi
-mkdir -p out/rlib && cat src/*.rt > "out/lib$(basename "$PWD").a"
-echo "$(basename "$PWD")" >> "$ROOM/calls"
+case "$*" in *--cpu*) for=":$5";; *) for=;; esac
+mkdir -p out/rlib && { cat src/*.rt; echo "$for"; } > "out/lib$(basename "$PWD").a"
+echo "$(basename "$PWD")$for" >> "$ROOM/calls"
 """
 
 
@@ -408,20 +427,22 @@ def write(path, what):
 
 def changes(room):
     """What is changed in turn, and the crates that are proved again for that."""
-    top, everything = f"{room}/crates/top", ["low", "top"]
+    top, everything = f"{room}/crates/top", ["low", *(f"top:{it}" for it in MORE_CPUS), "top"]
     yield "nothing, at first", everything, lambda: None
     yield "nothing", [], lambda: None
     yield "a file that nothing reads", [], lambda: write(f"{top}/must-fail/one.edit", "file: src/lib.rt\n")
     yield "a crate on which it does not stand", [], lambda: write(f"{room}/crates/other/src/lib.rt", "fn two() {}\n")
     yield "its code", everything, lambda: write(f"{top}/src/lib.rt", "fn more() {}\n")
     yield "a proof below it", everything, lambda: write(f"{room}/crates/low/proofs/Lib.antt", "-- another\n")
-    yield "its row", everything, lambda: write(f"{room}/crates.txt", "low:\nother:\ntop: low # a static library\n")
+    yield "its row", everything, lambda: write(f"{room}/crates.txt", "low:\nother:\ntop staticlib: low # a library for C\n")
     yield "what was built", everything, lambda: write(f"{top}/out/libtop.a", "another\n")
+    yield "what was built for another processor", everything, lambda: write(f"{top}/out/libtop.{MORE_CPUS[0]}.a", "another\n")
     yield "nothing of what is built", [], lambda: None
     yield "what is gone", everything, lambda: os.remove(f"{top}/out/libtop.a")
     yield "the kit", everything, lambda: write(f"{room}/kit", "kit 2\n")
-    yield "a test in it", everything, lambda: write(f"{top}/src/lib.rt", "#[test]\nfn more() {}\n")
-    yield "nothing, where tests are run", everything, lambda: None
+    yield "a row of another kind", ["low", "top"], lambda: write(f"{room}/crates.txt", "low:\nother:\ntop: low\n")
+    yield "a test in it", ["low", "top"], lambda: write(f"{top}/src/lib.rt", "#[test]\nfn more() {}\n")
+    yield "nothing, where tests are run", ["low", "top"], lambda: None
 
 
 TOLD = re.compile(r"about (\d+) (s|minutes) to go")
@@ -457,7 +478,7 @@ def test():
         write(f"{room}/bin/rt", CALLED)
         os.chmod(f"{room}/bin/rt", 0o755)
         write(f"{room}/kit", "kit 1\n")
-        write(f"{room}/crates.txt", "low:\nother:\ntop: low\n")
+        write(f"{room}/crates.txt", "low:\nother:\ntop staticlib: low\n")
         for name in ("low", "other", "top"):
             write(f"{room}/crates/{name}/src/lib.rt", "fn one() {}\n")
         copy = f"{room}/checks/prove.py"

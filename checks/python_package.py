@@ -168,13 +168,16 @@ def wheel():
 
 
 def try_out(python, made, place):
-    """Installs the wheel somewhere, and calls the library that is in it."""
+    """Installs the wheel somewhere, and calls the library that is in it, in the build that it picks and in the one for x86-64-v2."""
     pip = [python, "-m", "pip", "install", "--quiet", "--no-index", "--no-deps", "--target", place, made]
     subprocess.run(pip, check=True, env=dict(os.environ, PIP_ROOT_USER_ACTION="ignore"))
-    code = ("import morphd, numpy; assert morphd.__file__.startswith(%r); print('library version', morphd.library_version()); "
+    code = ("import morphd, numpy; assert morphd.__file__.startswith(%r); "
+            "print('library version', morphd.library_version(), 'for', morphd.library_build()); "
             "assert morphd.erosion(numpy.array([[3, 1, 4, 1, 5]], numpy.uint8), [[1, 1, 1]]).tolist() == [[1] * 5]" % place)
-    kept = {name: value for name, value in os.environ.items() if name != "MORPHD_LIBRARY"}
+    kept = {name: value for name, value in os.environ.items() if name not in ("MORPHD_LIBRARY", "MORPHD_CPU")}
+    older = code + "; assert morphd.library_build() == 'x86-64-v2'"
     subprocess.run([python, "-c", code], check=True, cwd=place, env=kept)
+    subprocess.run([python, "-c", older], check=True, cwd=place, env=dict(kept, MORPHD_CPU="v2"))
 
 
 def main():

@@ -590,6 +590,21 @@ def large_components(b, least, f):
     return redrawn(f, lambda x, y: int((x, y) in kept))
 
 
+def area_opening(b, least, f):
+    """The greatest level at which each place belongs to a large component. Levels that no sample has do what the next one does."""
+    opened = [0] * len(f.samples)
+    for k in sorted({*f.samples} - {0}):
+        at_least = Image("BIT", f.width, f.height, 1, [int(s >= k) for s in f.samples])
+        opened = [k if bit else level for bit, level in zip(large_components(b, least, at_least).samples, opened)]
+    return f._replace(samples=opened)
+
+
+def area_closing(b, least, f):
+    def turned(g):
+        return g._replace(samples=[g.maxval - s for s in g.samples])
+    return turned(area_opening(b, least, turned(f)))
+
+
 CROSS = [(0, -1), (-1, 0), (0, 0), (1, 0), (0, 1)]
 SQUARE = [(dx, dy) for dy in (-1, 0, 1) for dx in (-1, 0, 1)]
 
@@ -613,3 +628,24 @@ def squared_distance(top, f):
 
 def is_symmetric(offsets):
     return set(offsets) == set(turned(offsets))
+
+
+# ---- basins
+
+
+def watershed(b, f, markers, mask, chosen=lambda labels: labels[0]):
+    """The labels of a flood from markers, by rows. At each level go rounds, until one changes nothing. In a round each place of the mask
+    up to the level, without a label, takes the chosen one of the labels beside it as they stood when the round began, by rows."""
+    labels = [label if is_in else 0 for label, is_in in zip(markers, mask)]
+    for h in sorted(set(f.samples)):
+        before = None
+        while labels != before:
+            before = list(labels)
+            for y in range(f.height):
+                for x in range(f.width):
+                    at = y * f.width + x
+                    if mask[at] and not before[at] and f.samples[at] <= h:
+                        places = sorted(v * f.width + u for u, v in covered(f, b, x, y))
+                        beside = [before[place] for place in places if before[place]]
+                        labels[at] = chosen(beside) if beside else 0
+    return labels

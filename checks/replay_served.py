@@ -150,6 +150,9 @@ LEFT_OUT = (
     ("serve", "--port", "serve.serve_has_its_port_and_sessions"),
     ("serve", "--idle", "serve.a_silent_client_is_waited_for_a_second"),
     ("serve", "--until-end", "serve.end_before_any_client"),
+    ("serve", "--queue", "serve.one_client_over_the_queue_is_turned_away"),
+    ("serve", "--grace", "serve.sessions_are_ended_behind_the_grace"),
+    ("serve", "--status", "serve.serve_tells_its_state"),
     ("listen", "--workers", "listen.listen_has_its_port_workers_and_sessions"),
     ("listen", "--sessions", "listen.listen_has_its_port_workers_and_sessions"),
     ("listen", "--tile", "listen.listen_has_its_tiles"),
@@ -173,7 +176,9 @@ WRONG_CALLS = (
     ("one_by_one", "serve.a_thousand_answers_in_one_write"),
     ("one_by_one", "listen.a_thousand_answers_in_one_write"),
     ("no_pause", "serve.there_is_a_pause_behind_each_one_that_cannot_be_accepted"),
+    ("short_pauses", "serve.there_is_a_pause_behind_each_one_that_cannot_be_accepted"),
     ("gives_up", "batch.a_reader_that_is_interrupted"),
+    ("gives_up", "serve.line_that_is_interrupted"),
     ("loses_rest", "batch.a_writer_that_takes_parts"),
 )
 # A program in the place of the one that is tried, with the same number of its process.

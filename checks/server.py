@@ -1,6 +1,7 @@
 """Starts and stops a `morphd listen` or a `morphd serve`, and speaks to it as a client, or to a `morphd batch` through pipes.
 Whatever waits here has a time limit, and says what it waited for when that is over.
 """
+import functools
 import os
 import random
 import re
@@ -101,13 +102,20 @@ class Server:
         return False
 
 
+def set_bounds(bounds):
+    """Bounds what the process may have."""
+    for which, bound in bounds:
+        resource.setrlimit(which, (bound, bound))
+
+
 class Service(Server):
     """A `morphd serve`, which ends when its standard input does. It says on which port it listens."""
 
-    def __init__(self, program, sessions, workers=1, tile=128, idle=None, descriptors=None, settings=(), more=()):
+    def __init__(self, program, sessions, workers=1, tile=128, idle=None, descriptors=None, settings=(), more=(), addresses=None):
         words = ["--sessions", sessions, "--workers", workers, "--tile", tile] + (["--idle", idle] if idle else []) + list(more)
         pipes = {"stdin": subprocess.PIPE, "stdout": subprocess.PIPE, "stderr": subprocess.PIPE}
-        few = (lambda: resource.setrlimit(resource.RLIMIT_NOFILE, (descriptors, descriptors))) if descriptors else None
+        bounds = [(resource.RLIMIT_NOFILE, descriptors), (resource.RLIMIT_AS, addresses)]
+        few = functools.partial(set_bounds, [(which, bound) for which, bound in bounds if bound])
         words = [program, "serve", "--until-end", *map(str, words)]
         self.run = subprocess.Popen(words, preexec_fn=few, env=os.environ | dict(settings), **pipes)
         self.port = self.told_port()

@@ -2,33 +2,34 @@
 """Runs a `morphd serve` with 64 clients at once for as long as is asked for. Each makes one connection after the other, sends
 a random session of all operations (checks/random_session.py), ten times over, in pieces and with pauses, and compares every
 byte that comes with the reference model (checks/reference_model.py): the sessions share no name, whatever names they use. Some clients
-break their connection off anywhere. Beside them there are always one that keeps silent, one that sends a byte a second of a payload of
-134,217,728 bytes, and one that does not read what it asks for.
+break their connection off anywhere. Beside them there is always a bad client of each kind that checks/soak_neighbours.py has, among
+them one that opens pictures of 2048 x 2048, and a good one (checks/good_client.py), whose times are taken.
 
-    python3 checks/soak_serve.py crates/morphd/out/morphd [SECONDS [SEED]]
+    python3 checks/soak_serve.py crates/morphd/out/morphd [SECONDS [SEED [WORDS of the service]]]
 
-It prints sessions, requests, images and the greatest resident size. It begins by spoiling what came, to show that it would
-notice. The service has the settings of the unit for systemd. At the end it is no larger than it was before the first client, but
-for SLACK, ends with status 0 when its standard input does, and has told nothing. It ends by itself: each reply has a time limit, and
-so has the whole.
-
-Before that, 16 clients at once each open a picture of 2048 x 2048 samples eight times and fetch one of the results, which has to be
-the opening. When they have left, the service may be larger by LARGE_SLACK than it was before they came.
+Its last line has sessions, requests, how often a client was bad, the resident size at the start and at the end, and how long a good client
+waits. It begins by spoiling what came, to show that it would notice. The service has the settings of the unit for systemd. At
+the end it is no larger than it was before the first client, but for SLACK, ends with status 0 when its standard input does, and has told
+nothing. It ends by itself: each reply has a time limit, and so has the whole.
 """
 import collections
 import contextlib
 import os
 import random
-import socket
-import struct
+import subprocess
 import sys
 import threading
 import time
 
 import reference_model
+import soak_neighbours
+from kept_memory import SLACK, settings_of_unit
+from peers import hang_up
 from random_session import written
 from server import NoAnswer, Service
+from soak_neighbours import KINDS, Neighbours
 
+HERE = os.path.dirname(os.path.realpath(__file__))
 CLIENTS = 64
 # Of so many sessions of a client one is broken off, and so often each is sent.
 BROKEN, TIMES = 8, 10
@@ -36,33 +37,14 @@ BROKEN, TIMES = 8, 10
 PATIENCE, GRACE = 120, 300
 # How often it is told how far it is.
 TELLS = 10
-# By how many bytes a service may grow, and by how many behind clients with large pictures.
-SLACK = 10 << 20
-LARGE_SLACK = 32 << 20
 # How long the service waits for a client.
 IDLE = 600
-UNIT = f"{os.path.dirname(os.path.dirname(os.path.realpath(__file__)))}/examples/morphd.service"
-SIDE = 1024
-PICTURE = b"P5\n%d %d\n255\n" % (SIDE, SIDE) + bytes(range(256)) * (SIDE * SIDE // 256)
-# Clients that open a large picture at once, the side of its square, and how often each opens it, by a square of 5 x 5.
-LARGE_CLIENTS, LARGE_SIDE, OPENINGS = 16, 2048, 8
-SQUARE = b"P1\n5 5\n" + b"1" * 25 + b"\n"
+# So many sessions are there for all clients but those that come in crowds.
+SESSIONS = CLIENTS + len(KINDS) + 2
 
 
 class Differs(Exception):
     """Something else came than the reference model has."""
-
-
-def settings_of_unit():
-    """The environment that the unit gives the service."""
-    with open(UNIT, encoding="utf-8") as unit:
-        return [it.split("=", 1) for line in unit if line.startswith("Environment=") for it in line.strip()[len("Environment="):].split()]
-
-
-def hang_up(client):
-    """Closes the connection at once, with what is unread."""
-    client.wire.setsockopt(socket.SOL_SOCKET, socket.SO_LINGER, struct.pack("ii", 1, 0))
-    client.wire.close()
 
 
 def heard(client):
@@ -135,8 +117,8 @@ class Hand:
 class Soak:
     """A service, its clients, and what was seen of them."""
 
-    def __init__(self, program, seconds, seed):
-        self.program, self.seconds, self.seed, self.fault = program, seconds, seed, None
+    def __init__(self, program, seconds, seed, words=()):
+        self.program, self.seconds, self.seed, self.words, self.fault = program, seconds, seed, words, None
         self.service, self.begun, self.told = None, time.monotonic(), time.monotonic()
         self.hands, self.turn, self.resting, self.has_rest = [], threading.Condition(), 0, False
 
@@ -173,23 +155,9 @@ class Soak:
             self.turn.notify_all()
         return size
 
-    # ---- bad peers
-
-    def bad_peers(self, stop):
-        """One that keeps silent, one that drips, and one that does not read, for as long as the service bears them."""
-        try:
-            while not stop.is_set():
-                silent, drips, deaf = (self.service.connect(PATIENCE) for _ in range(3))
-                silent.send(b"STAT")
-                drips.send(b"LOAD x 134217728\n")
-                deaf.send(b"LOAD large %d\n" % len(PICTURE) + PICTURE + b"FETCH large\n" * 16)
-                for _ in range(5):
-                    drips.send(b"P")
-                    stop.wait(1)
-                for client in (silent, drips, deaf):
-                    hang_up(client)
-        except NoAnswer as fault:
-            self.fault = self.fault or fault
+    def tells(self, fault):
+        """The first fault of any client ends the soak."""
+        self.fault = self.fault or fault
 
     # ---- threads
 
@@ -198,7 +166,7 @@ class Soak:
         try:
             hand.works()
         except Exception as fault:
-            self.fault = self.fault or NoAnswer("client %d: %s: %s" % (hand.number, type(fault).__name__, fault))
+            self.tells(NoAnswer("client %d: %s: %s" % (hand.number, type(fault).__name__, fault)))
         with self.turn:
             hand.has_ended = True
             self.turn.notify_all()
@@ -225,88 +193,54 @@ class Soak:
     # ---- the whole
 
     def to_the_end(self):
-        # Sessions for the clients, and for their bad neighbours.
-        with Service(self.program, CLIENTS + 3, tile=64, idle=IDLE, settings=settings_of_unit()) as self.service:
+        with Service(self.program, SESSIONS, tile=64, idle=IDLE, settings=settings_of_unit(), more=self.words) as self.service:
             self.runs()
 
-    def runs(self):
-        stop = threading.Event()
-        neighbours = threading.Thread(target=self.bad_peers, args=(stop,), daemon=True)
+    def work(self):
+        """All clients for as long as was asked for; how often they were bad, and the good one's times."""
+        neighbours, good = Neighbours(self.service, self.seed, self.tells), Good(self.service.port)
         self.hands = [Hand(self, number) for number in range(CLIENTS)]
-        self.begun = self.told = time.monotonic()
-        start = 1024 * self.service.size()
-        for thread in [threading.Thread(target=self.works, args=(hand,), daemon=True) for hand in self.hands] + [neighbours]:
-            thread.start()
+        neighbours.begin()
+        for hand in self.hands:
+            threading.Thread(target=self.works, args=(hand,), daemon=True).start()
         self.waits(lambda: time.monotonic() > self.ends(), self.seconds + GRACE)
-        stop.set()
-        neighbours.join(PATIENCE)
-        last, greatest = self.size_at_rest(), self.service.size("VmHWM")
+        faults, times = neighbours.end(), good.end()
+        if self.fault:
+            raise self.fault
+        return faults, times
+
+    def runs(self):
+        self.begun = self.told = time.monotonic()
+        start = self.service.size()
+        faults, times = self.work()
+        last, greatest = self.size_at_rest() // 1024, self.service.size("VmHWM")
         status, told = self.service.end(PATIENCE)
         if (status, told) != (0, b""):
             raise Differs("the service ended with status %d and told %r" % (status, told))
-        print("%s; greatest resident size %d kB; seed %s" % (self.counted(), greatest, self.seed))
-        print("  before the first client %d kB, and at the end %d kB, of %d kB that it may have"
-              % (start // 1024, last // 1024, (start + SLACK) // 1024))
-        if last > start + SLACK:
-            raise Differs("the service grew by %d bytes, and may by %d" % (last - start, SLACK))
+        faults += sum(it.counts["broken off"] for it in self.hands)
+        print("soak_serve.py: %s; %d times a client was bad; resident %d kB at the start, %d at most, %d at the end, of %d that it may have; "
+              "%s; seed %s" % (self.counted(), faults, start, greatest, last, start + SLACK // 1024, times, self.seed))
+        if last > start + SLACK // 1024:
+            raise Differs("the service grew by %d kB, and may by %d" % (last - start, SLACK // 1024))
 
 
-def picture_of(row):
-    """A square picture of which each row is this one."""
-    return b"P5\n%d %d\n255\n" % (len(row), len(row)) + bytes(row) * len(row)
+class Good:
+    """A good client in a process of its own."""
 
+    def __init__(self, port):
+        words = [sys.executable, "-B", "%s/good_client.py" % HERE, str(port)]
+        self.run = subprocess.Popen(words, stdin=subprocess.PIPE, stdout=subprocess.PIPE, stderr=subprocess.STDOUT)
 
-def opened(row):
-    """The opening of a row by five samples."""
-    windows = [slice(max(0, x - 2), x + 3) for x in range(len(row))]
-    eroded = [min(row[it]) for it in windows]
-    return [max(eroded[it]) for it in windows]
-
-
-def large_session(row):
-    """What a client with a large picture sends, and what it is to hear."""
-    picture, opening = picture_of(row), picture_of(opened(row))
-    names = ["o%d" % k for k in range(OPENINGS)]
-    sent = b"LOAD f %d\n" % len(picture) + picture + b"ELEMENT b 2 2 %d\n" % len(SQUARE) + SQUARE
-    sent += "".join("RUN %s OPEN f b\n" % name for name in names).encode()
-    sent += "".join("STATUS %s\n" % name for name in names).encode() + b"FETCH o0\nQUIT\n"
-    replies = "".join("OK %d\n" % k for k in range(2 + OPENINGS))
-    replies += "".join("DONE %d GREY %d %d 255\n" % (2 + k, len(row), len(row)) for k in range(OPENINGS))
-    return sent, replies.encode() + b"IMAGE 2 %d\n" % len(opening) + opening
-
-
-def speaks(service, sent, come):
-    """One client, which sends while it listens."""
-    with service.connect(GRACE) as client:
-        speaker = threading.Thread(target=client.send, args=(sent,), daemon=True)
-        speaker.start()
-        come.append(client.rest())
-        speaker.join(GRACE)
-
-
-def large_pictures(program):
-    """Clients with large pictures, all at once, and what the service keeps when they have left."""
-    row = random.Random("a large picture").choices(range(256), k=LARGE_SIDE)
-    sent, wanted = large_session(row)
-    come = []
-    with Service(program, LARGE_CLIENTS, settings=settings_of_unit()) as service:
-        start = 1024 * service.size()
-        clients = [threading.Thread(target=speaks, args=(service, sent, come), daemon=True) for _ in range(LARGE_CLIENTS)]
-        for client in clients:
-            client.start()
-        for client in clients:
-            client.join(GRACE)
-        service.is_at_rest()
-        last, greatest = 1024 * service.size(), service.size("VmHWM")
-        status, told = service.end(PATIENCE)
-    if come != [wanted] * LARGE_CLIENTS:
-        raise Differs("%d of %d clients with large pictures heard what they are to hear" % (come.count(wanted), LARGE_CLIENTS))
-    if (status, told) != (0, b""):
-        raise Differs("the service of large pictures ended with status %d and told %r" % (status, told))
-    print("  large pictures: before %d kB, at most %d kB, behind them %d kB, of %d kB that it may have"
-          % (start // 1024, greatest, last // 1024, (start + LARGE_SLACK) // 1024), flush=True)
-    if last > start + LARGE_SLACK:
-        raise Differs("the service kept %d bytes behind large pictures, and may keep %d" % (last - start, LARGE_SLACK))
+    def end(self):
+        """Its times in words."""
+        try:
+            said, _ = self.run.communicate(timeout=PATIENCE)
+        except subprocess.TimeoutExpired:
+            self.run.kill()
+            raise NoAnswer("the good client did not end in %d s" % PATIENCE) from None
+        if self.run.returncode:
+            raise Differs("the good client: %s" % said.decode(errors="replace").strip()[-300:])
+        return "of %s good clients half waited %s ms at most, 99 of 100 %s, all %s" % tuple(said.decode().split())
 
 
 class Spoiled(Soak):
@@ -329,7 +263,7 @@ def notices(program):
                 noticed.append(False)
             except Differs:
                 noticed.append(True)
-    return noticed == [False, True]
+    return noticed == [False, True] and soak_neighbours.notices()
 
 
 def main():
@@ -339,9 +273,8 @@ def main():
     if not notices(program):
         sys.exit("soak_serve.py: a spoiled reply was not noticed")
     print("soak_serve.py: spoiled replies are noticed; seed %s" % seed, flush=True)
-    soak = Soak(program, seconds, seed)
+    soak = Soak(program, seconds, seed, sys.argv[4:])
     try:
-        large_pictures(program)
         soak.to_the_end()
     except (Differs, NoAnswer) as fault:
         print("soak_serve.py: seed %s: %s" % (seed, fault), flush=True)

@@ -23,8 +23,7 @@ PLACES = {
     ],
     "number of the library": [
         ("include/morphd.h", r"The version of this file, which is (\d+)"),
-        ("Makefile", r"-soname,libmorphd\.so\.(\d+)"),
-        ("Makefile", r"out/libmorphd\.so\.(\d+)$"),
+        ("library/link.py", r'^SONAME = "libmorphd\.so\.(\d+)"$'),
         ("python/morphd/_library.py", r"^VERSION = (\d+)$"),
         ("python/morphd/_library.py", r'^NAME = "libmorphd\.so\.(\d+)"$'),
         ("python/pyproject.toml", r'"libmorphd\.so\.(\d+)"'),

@@ -27,9 +27,10 @@ static int is_wrong(const char *word) {
     return wrong && strcmp(wrong, word) == 0;
 }
 
-/* Both ways of a connection are closed in the place of one. */
+/* Both ways of a connection are closed in the place of one. Who reads for ever does not end what comes. */
 int shutdown(int socket, int how) {
     REAL(int, shutdown, int, int);
+    if (how == SHUT_RD) return is_wrong("read_for_ever") ? 0 : real(socket, how);
     if (socket >= 0 && socket < MOST) {
         is_closed[socket] = how == SHUT_WR;
         reads[socket] = 0;
@@ -41,16 +42,17 @@ static int is_bound(int level, int name) {
     return level == SOL_SOCKET && (name == SO_RCVTIMEO || name == SO_SNDTIMEO);
 }
 
-/* Replies wait for acknowledgements; one of the two waits has no bound; bounds are in milliseconds. */
+/* Replies wait for acknowledgements; one of the two waits has no bound, or none behind the end; bounds are in milliseconds. */
 int setsockopt(int socket, int level, int name, const void *value, socklen_t size) {
     REAL(int, setsockopt, int, int, int, const void *, socklen_t);
     if (level == IPPROTO_TCP && name == TCP_NODELAY && is_wrong("delayed")) return 0;
     if (is_bound(level, name)) {
+        if (name == SO_RCVTIMEO && is_wrong("read_for_ever") && socket >= 0 && socket < MOST && is_closed[socket]) return 0;
         if (name == SO_SNDTIMEO && is_wrong("writes_unbounded")) return 0;
         if (name == SO_RCVTIMEO && is_wrong("reads_unbounded")) return 0;
         if (is_wrong("milliseconds")) {
             struct timeval wait = *(const struct timeval *)value;
-            wait.tv_usec = 1000 * wait.tv_sec;
+            wait.tv_usec = 1000 * wait.tv_sec + wait.tv_usec / 1000;
             wait.tv_sec = 0;
             return real(socket, level, name, &wait, sizeof wait);
         }
@@ -58,7 +60,7 @@ int setsockopt(int socket, int level, int name, const void *value, socklen_t siz
     return real(socket, level, name, value, size);
 }
 
-/* What comes behind the end of a session is read once, or for ever; an interrupted read ends a session. */
+/* What comes behind the end of a session is read once, or for ever; an interrupted read or write has failed. */
 static int is_read_on(int socket) {
     if (socket < 0 || socket >= MOST || !is_closed[socket]) return 1;
     return ++reads[socket] == 1 || !is_wrong("read_once");
@@ -92,6 +94,7 @@ static size_t sent_at_once(size_t size) {
 }
 
 static ssize_t put(ssize_t count, size_t size) {
+    if (count < 0 && errno == EINTR && is_wrong("gives_up")) errno = EIO;
     return count > 0 && is_wrong("loses_rest") ? (ssize_t)size : count;
 }
 
@@ -111,13 +114,18 @@ ssize_t sendto(int socket, const void *buffer, size_t size, int flags, const str
     return real(socket, buffer, sent_at_once(size), flags, to, length);
 }
 
-/* There is no pause where a connection cannot be accepted. */
+/* There is no pause where a connection cannot be accepted, or none that grows. */
+static const struct timespec *paused(const struct timespec *wait) {
+    static const struct timespec least = {0, 20000000};
+    return is_wrong("short_pauses") ? &least : wait;
+}
+
 int nanosleep(const struct timespec *wait, struct timespec *left) {
     REAL(int, nanosleep, const struct timespec *, struct timespec *);
-    return is_wrong("no_pause") ? 0 : real(wait, left);
+    return is_wrong("no_pause") ? 0 : real(paused(wait), left);
 }
 
 int clock_nanosleep(clockid_t clock, int flags, const struct timespec *wait, struct timespec *left) {
     REAL(int, clock_nanosleep, clockid_t, int, const struct timespec *, struct timespec *);
-    return is_wrong("no_pause") ? 0 : real(clock, flags, wait, left);
+    return is_wrong("no_pause") ? 0 : real(clock, flags, paused(wait), left);
 }

@@ -51,8 +51,13 @@
  * and thresholds write strips of rows: all that can be refused is asked for before the first is written. A later strip for
  * which there is no memory is made sample by sample, slowly, and the answer is 0.
  *
- * Of every function it is proved that it makes and answers what this file says. docs/dev/DEFINITIONS.md has the operators,
- * docs/PROTOCOL.md the numbers, docs/LIBRARY.md programs.
+ * Of every function but morphd_build it is proved that it makes and answers what this file says. docs/dev/DEFINITIONS.md has the
+ * operators, docs/PROTOCOL.md the numbers, docs/LIBRARY.md programs.
+ *
+ * Processors
+ *
+ * There are two builds of each function, for x86-64-v2 and for x86-64-v3. As the library is loaded, the latter is taken where the
+ * processor and the system have all that it needs, unless MORPHD_CPU is v2 in the environment. Both make the same.
  */
 #ifndef MORPHD_H
 #define MORPHD_H
@@ -88,6 +93,12 @@ enum {
     MORPHD_MINIMA = 1  /* basins, and plateaus that have no lower neighbour */
 };
 
+/* Kinds of area operators. */
+enum {
+    MORPHD_AREA_OPENING = 0, /* peaks of too few pixels are cut off */
+    MORPHD_AREA_CLOSING = 1  /* pits of too few pixels are filled up */
+};
+
 /* Metrics of distances. */
 enum {
     MORPHD_CITY_BLOCK = 0,    /* steps to the places above, to the left, to the right and below */
@@ -118,6 +129,9 @@ enum {
 
 /* The version of this file, which is 1: it rises when a function or a number changes its meaning. */
 uint32_t morphd_version(void);
+
+/* Which build runs: 2 that for x86-64-v2, 3 that for x86-64-v3. */
+uint32_t morphd_build(void);
 
 /* A flat operation, one of the eight above; the result has the image's maxval. MORPHD_RANK alone looks at `k`, which is there
  * from 1 to the number of the element's pixels; the element then has the pixel at its origin. */
@@ -336,12 +350,36 @@ int32_t morphd_regions_set(
     const uint8_t *element, size_t element_count, uint32_t element_width, uint32_t element_height, uint32_t element_x, uint32_t element_y,
     uint32_t *out, size_t out_count, uint32_t *components);
 
+/* Both by one search: the labels in `out`, the seven numbers of each component in `regions`, and `*components`. `out` has a place
+ * for each pixel; `regions` is as `out` of morphd_regions_set is. The answer is 0 where both are written, and else both are as they
+ * were. Where `regions` is too short the answer is MORPHD_LENGTH: that is found last, and `*components` is written then too. It takes
+ * little more time than either call alone. */
+int32_t morphd_components_set(
+    uint32_t width, uint32_t height, const uint8_t *pixels, size_t count,
+    const uint8_t *element, size_t element_count, uint32_t element_width, uint32_t element_height, uint32_t element_x, uint32_t element_y,
+    uint32_t *out, size_t out_count, uint32_t *regions, size_t regions_count, uint32_t *components);
+
 /* The components of a set that have `least` pixels or more. `least` is not 0. */
 int32_t morphd_area_set(
     uint32_t least,
     uint32_t width, uint32_t height, const uint8_t *pixels, size_t count,
     const uint8_t *element, size_t element_count, uint32_t element_width, uint32_t element_height, uint32_t element_x, uint32_t element_y,
     uint8_t *out, size_t out_count);
+
+/* MORPHD_AREA_OPENING: at each place the greatest level at which it belongs to a large component, or 0 where there is none. Of a
+ * level these are the components of the set of all places with that level or more that have `least` pixels or more.
+ * MORPHD_AREA_CLOSING: the maxval less the area opening of the maxval less each sample. `least` is not 0. Any other kind
+ * answers MORPHD_PARAM. */
+int32_t morphd_area_u8(
+    uint32_t kind, uint32_t least,
+    uint32_t width, uint32_t height, uint8_t maxval, const uint8_t *samples, size_t count,
+    const uint8_t *element, size_t element_count, uint32_t element_width, uint32_t element_height, uint32_t element_x, uint32_t element_y,
+    uint8_t *out, size_t out_count);
+int32_t morphd_area_u16(
+    uint32_t kind, uint32_t least,
+    uint32_t width, uint32_t height, uint16_t maxval, const uint16_t *samples, size_t count,
+    const uint8_t *element, size_t element_count, uint32_t element_width, uint32_t element_height, uint32_t element_x, uint32_t element_y,
+    uint16_t *out, size_t out_count);
 
 /* Distances: 0 for what is not in the set, and for each pixel how far the nearest place of the image is that is not in it, or `top`
  * where that is less or there is no such place. Outside of the image nothing is near. `top` is not 0. */

@@ -247,6 +247,7 @@ def morph_page(version: str, day: str) -> str:
         head, _, rest = block.partition(":\n")
         made += f".SH {escaped(head.upper())}\n{verbatim(rest)}" if rest else f".SH NOTES\n{escaped(block)}\n"
     made += ".SH ENVIRONMENT\n.TP\n\\fBMORPHD_LIBRARY\\fR\nthe path of another libmorphd.so.1 than the one that is found\n"
+    made += ".TP\n\\fBMORPHD_CPU\\fR\nv2 takes the library's build for x86-64-v2 where it would take that for x86-64-v3\n"
     return made + f'.SH REQUIREMENTS\n{escaped(REQUIREMENTS)}\n.SH "SEE ALSO"\n\\fBmorphd\\fR(1)\n'
 
 

@@ -56,6 +56,9 @@ ROWS = [
     ("grains", "morphd.hmax(grains, 90)", "domes are cut by 90 levels, so faint specks go"),
     ("grains", "morphd.label(morphd.remove_small_objects(morphd.threshold(grains, 120), 10))", "a number for each grain, or heap of grains"),
     ("grains", "morphd.distance(morphd.threshold(grains, 120), 'cityblock')", "how far each pixel lies from the ground"),
+    ("grains", "morphd.split_grains(morphd.remove_small_objects(morphd.threshold(grains, 120), 10), h=0.5)", "a number for each grain, parted where they touch"),
+    ("grains", "morphd.watershed(grains * 0, morphd.label(morphd.remove_small_objects(morphd.threshold(grains, 120), 10)))",
+     "the zone of each grain: the pixels that are nearest to it by steps to a side"),
 ]
 
 

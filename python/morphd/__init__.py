@@ -5,9 +5,9 @@
     opened = morphd.opening(image, morphd.disk(5))
     curve = morphd.spectrum(morphd.threshold(opened, morphd.otsu(opened)), morphd.octagon(3, 2), 16, pixel="0.32um")
 
-Every image, label and area comes from libmorphd or from the program `morphd`: this package has no operator of its own. `operators`,
-`geodesics`, `grains`, `curves` and `files` need NumPy, `dask` needs Dask; `footprints`, `session`, `pixels`, `doubts` and `errors` need
-nothing but Python. What a name needs is imported when the name is used.
+Images, labels and areas come from libmorphd or from the program `morphd`: this package has no operator of its own, but for the flooding
+of `watersheds`. That module, `operators`, `geodesics`, `areas`, `grains`, `curves` and `files` need NumPy, `dask` needs Dask;
+`footprints`, `session`, `pixels`, `doubts` and `errors` need nothing but Python. What a name needs is imported when the name is used.
 """
 from __future__ import annotations
 
@@ -27,36 +27,40 @@ _MODULES = {
         "rank", "restored", "skeleton", "threshold", "white_tophat",
     ),
     "geodesics": (
-        "area_opening", "clear_border", "distance", "fill_holes", "h_maxima", "h_minima", "hmax", "hmin", "label",
-        "local_maxima", "local_minima", "reconstruction", "remove_small_objects",
+        "clear_border", "distance", "fill_holes", "h_maxima", "h_minima", "hmax", "hmin", "label", "local_maxima",
+        "local_minima", "reconstruction",
     ),
+    "areas": ("area_closing", "area_opening", "remove_small_objects"),
     "grains": ("Regions", "Summary", "regions"),
+    "watersheds": ("split_grains", "watershed"),
     "curves": ("Spectrum", "spectrum"),
     "files": ("Loaded", "load", "read", "write"),
     "levels": ("otsu",),
     "netpbm": ("Picture",),
     "pixels": ("Pixel",),
     "session": ("Handle", "Session"),
-    "_library": ("library_version",),
+    "_library": ("library_build", "library_version"),
 }
 _HOMES = {name: module for module, names in _MODULES.items() for name in names}
 # What modules need: its name in words, and the package that has it.
 _NEEDS = {"numpy": ("NumPy", "python3-numpy"), "dask": ("Dask", "python3-dask")}
 _SUBMODULES = (
-    "curves", "dask", "doubts", "errors", "files", "footprints", "geodesics", "grains", "levels", "netpbm", "operators", "pixels",
-    "session",
+    "areas", "curves", "dask", "doubts", "errors", "files", "footprints", "geodesics", "grains", "levels", "netpbm", "operators",
+    "pixels", "session", "watersheds",
 )
 
 if TYPE_CHECKING:
-    from . import curves, dask, doubts, errors, files, footprints, geodesics, grains, levels, netpbm, operators, pixels, session
-    from ._library import library_version
+    from . import (
+        areas, curves, dask, doubts, errors, files, footprints, geodesics, grains, levels, netpbm, operators, pixels, session, watersheds,
+    )
+    from ._library import library_build, library_version
+    from .areas import area_closing, area_opening, remove_small_objects
     from .curves import Spectrum, spectrum
     from .errors import Cancelled, InputFailed, LibraryMissing, OutOfMemory, ProgramMissing, Refused, SessionEnded
     from .files import Loaded, load, read, write
     from .footprints import Footprint, Reach, diamond, disk, line, octagon, rectangle, square
     from .geodesics import (
-        area_opening, clear_border, distance, fill_holes, h_maxima, h_minima, hmax, hmin, label, local_maxima,
-        local_minima, reconstruction, remove_small_objects,
+        clear_border, distance, fill_holes, h_maxima, h_minima, hmax, hmin, label, local_maxima, local_minima, reconstruction,
     )
     from .grains import Regions, Summary, regions
     from .levels import otsu
@@ -67,15 +71,16 @@ if TYPE_CHECKING:
     )
     from .pixels import Pixel
     from .session import Handle, Session
+    from .watersheds import split_grains, watershed
 
 __all__ = [
     "Cancelled", "Footprint", "Handle", "InputFailed", "LibraryMissing", "Loaded", "OutOfMemory", "Picture", "Pixel",
     "ProgramMissing", "Reach", "Refused", "Regions", "Session", "SessionEnded", "Spectrum", "Summary",
-    "area_opening", "black_tophat", "clear_border", "closing", "diamond", "dilation", "disk", "distance", "erosion",
-    "fill_holes", "gradient", "h_maxima", "h_minima", "hit_or_miss", "hmax", "hmin", "label", "library_version",
-    "line", "load", "local_maxima", "local_minima", "median", "octagon", "opening", "otsu", "percentile", "rank",
-    "read", "reconstruction", "rectangle", "regions", "remove_small_objects", "restored", "skeleton", "spectrum",
-    "square", "threshold", "white_tophat", "write",
+    "area_closing", "area_opening", "black_tophat", "clear_border", "closing", "diamond", "dilation", "disk", "distance",
+    "erosion", "fill_holes", "gradient", "h_maxima", "h_minima", "hit_or_miss", "hmax", "hmin", "label", "library_build",
+    "library_version", "line", "load", "local_maxima", "local_minima", "median", "octagon", "opening", "otsu",
+    "percentile", "rank", "read", "reconstruction", "rectangle", "regions", "remove_small_objects", "restored",
+    "skeleton", "spectrum", "split_grains", "square", "threshold", "watershed", "white_tophat", "write",
 ]
 
 

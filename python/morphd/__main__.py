@@ -38,6 +38,7 @@ examples:
   morph hit-or-miss --hit corner.pbm --miss beside.pbm mask.pbm -o corners.pbm
   morph spectrum --octagon 3,2 --sizes 16 --pixel 0.32um mask.png --plot curve.svg --csv curve.csv
   morph grains --at otsu --clear-border --fill --min-area 5um2 --pixel 0.32um grains.png --csv grains.csv --report grains.html
+  morph grains --at otsu --split 1 --clear-border grains.png --overlay outlines.png
   morph label --connectivity 4 mask.png -o labels.png
   morph reconstruct seeds.png mask.png -o found.png
   morph opening --disk 5 night/*.png --jobs 4 -o opened/
@@ -93,6 +94,12 @@ def _finite(text: str) -> float:
         number = math.nan
     if not math.isfinite(number):
         raise argparse.ArgumentTypeError(f"{text}: a finite number is wanted")
+    return number
+
+
+def _fall(text: str) -> float:
+    if (number := _finite(text)) < 0:
+        raise argparse.ArgumentTypeError(f"{text}: a number from 0 on is wanted")
     return number
 
 
@@ -272,6 +279,8 @@ def _add_grains(parser: argparse.ArgumentParser) -> None:
     parser.add_argument("--dark", action="store_true", help="grains are what is darker than the level, or outside the set")
     parser.add_argument("--clear-border", action="store_true", help="leave out grains that the frame cuts")
     parser.add_argument("--fill", action="store_true", help="fill holes")
+    told = "part grains that touch, at necks where the distance from the ground falls by more than H pixels; 1 is usual, more joins"
+    parser.add_argument("--split", type=_fall, metavar="H", help=told)
     parser.add_argument("--min-area", type=_min_area, metavar="AREA", help="the least area, as 30um2, or 30 for pixels; smaller grains go")
     _add_pixel(parser, "sizes")
 

@@ -85,8 +85,16 @@ _BOOKS = {
              "   Acoustics, Speech and Signal Processing 27, 1979, pp. 13-18.",
     "vincent": 'L. Vincent, "Morphological grayscale reconstruction in image analysis: applications and efficient algorithms", IEEE\n'
                "   Transactions on Image Processing 2, 1993, pp. 176-201.",
+    "vincent_areas": 'L. Vincent, "Grayscale area openings and closings, their efficient implementation and applications", EURASIP\n'
+                     "   Workshop on Mathematical Morphology, Barcelona, 1993, pp. 22-27.",
+    "meijster": 'A. Meijster and M. H. F. Wilkinson, "A comparison of algorithms for connected set openings and closings", IEEE\n'
+                "   Transactions on Pattern Analysis and Machine Intelligence 24, 2002, pp. 484-494.",
     "lantuejoul": 'C. Lantuejoul, "La squelettisation et son application aux mesures topologiques des mosaiques polycristallines",\n'
                   "   thesis, Ecole des Mines de Paris, 1978.",
+    "beucher": 'S. Beucher and C. Lantuejoul, "Use of watersheds in contour detection", International Workshop on Image Processing,\n'
+               "   Rennes, 1979.",
+    "meyer_1991": 'F. Meyer, "Un algorithme optimal pour la ligne de partage des eaux", 8e congres de reconnaissance des formes et\n'
+                  "   intelligence artificielle, Lyon, 1991, pp. 847-857.",
 }
 COMPARES = """\
 Other integers and
@@ -95,6 +103,7 @@ Other integers and
 FILLS = """\
 Other integers and
     floats are taken, too, with up to 65,536 values in a plane and no NaN, since holes only compare samples."""
+DROPS = "Other types are refused, since what belongs to nothing so large drops to the level 0, or of the complement."
 COMPUTES = "Other types are refused, since the operator subtracts samples."
 
 

@@ -10,9 +10,11 @@ import numpy as np
 
 from . import _library
 from ._calls import Field, Samples, array_at, element_of, frame_of, ready_with
+from .errors import Refused
 from .footprints import Footprint
 
 _EXTREMA = ("maxima", "minima")
+_AREA = ("opening", "closing")
 _METRICS = {_library.CITY_BLOCK: "city-block", _library.CHESSBOARD: "chessboard", _library.SQUARED_EUCLID: "squared Euclidean"}
 # What the library tells of a component: the column and row of its first place, its area, and its box with both ends.
 REGION = ("x", "y", "area", "left", "top", "right", "bottom")
@@ -150,6 +152,23 @@ class Large(Whole):
 
 
 @dataclass(frozen=True)
+class AreaFiltered(Whole):
+    """The area opening or the area closing."""
+
+    kind: int
+    least: int
+    footprint: Footprint
+
+    def ready(self, field: Field, out: Samples) -> Callable[[], None]:
+        levels = field.levels
+        arguments = (self.kind, self.least, *_arguments(levels, self.footprint, out))
+        return ready_with(f"morphd_area_{levels.kind}", lambda: f"{self} of {field}", arguments, field.samples, out)
+
+    def __str__(self) -> str:
+        return f"area {_AREA[self.kind]} of {self.least} pixels by {self.footprint!r}"
+
+
+@dataclass(frozen=True)
 class Distances(Whole):
     """How far each pixel of a set is from the nearest one outside, or the top."""
 
@@ -175,9 +194,27 @@ def labels(field: Field, footprint: Footprint) -> tuple[Samples, int]:
     return out, int(count[0])
 
 
-def regions(field: Field, footprint: Footprint, count: int) -> Samples:
-    """A row of the numbers of `REGION` for each of a set's components, of which there are so many, by their first places."""
-    out, found = np.empty((count, len(REGION)), np.uint32), np.zeros(1, np.uint32)
-    arguments = (*_arguments(field, footprint, out), found.ctypes.data)
-    ready_with("morphd_regions_set", lambda: f"{count} regions by {footprint!r} of {field}", arguments, field.samples, out, found)()
-    return out
+def regions(field: Field, footprint: Footprint) -> tuple[Samples, Samples]:
+    """The labels of a set, and a row of the numbers of `REGION` for each of its components, by their first places.
+
+    There is room at first for a component in 16 pixels. Of a set that has more of them the library tells how many there are, and is
+    asked once more.
+    """
+    out, found = np.empty(field.samples.shape, np.uint32), np.zeros(1, np.uint32)
+
+    def asked() -> str:
+        return f"regions by {footprint!r} of {field}"
+
+    def rows_of(most: int) -> Samples:
+        rows = np.empty((most, len(REGION)), np.uint32)
+        arguments = (*_arguments(field, footprint, out), *array_at(rows), found.ctypes.data)
+        ready_with("morphd_components_set", asked, arguments, field.samples, out, rows, found)()
+        return rows[: int(found[0])]
+
+    most = field.samples.size // 16 + 16
+    try:
+        return out, rows_of(most).copy()
+    except Refused:
+        if found[0] <= most:
+            raise
+    return out, rows_of(int(found[0]))

@@ -90,6 +90,7 @@ def _sizes(counted: Counted) -> str:
     told = [("grains that are measured", str(len(counted.areas))), ("cut by the frame", str(counted.cut)),
             ("of these left out", str(counted.left_out)), ("too small, and dropped", str(counted.small)),
             (f"area of the frame in {unit}", in_digits(counted.frame)),
+            *([("heaps that are parted", str(counted.heaps)), ("grains out of these", str(counted.parts))] if counted.heaps else []),
             ("of it covered by grains", f"{100 * counted.covered / counted.frame:.1f} %"),
             ("grains inside and half of those cut", in_digits(counted.inside + counted.cut / 2))]
     if counted.per_square_millimetre is not None:
@@ -163,12 +164,17 @@ def _asked(found: Measured) -> list[tuple[str, str]]:
     return [
         ("file", found.path), ("picture", sides),
         ("side of a pixel", "not known, so sizes are in pixels" if pixel.unit == "pixels" and pixel.size == 1 else str(pixel)),
-        ("grains", _threshold(asked)), ("grains that the frame cuts", "left out" if asked.clears else "measured as far as they are seen"),
+        ("grains", _threshold(asked)), *([] if asked.split is None else [("grains that touch", _split(asked.split))]),
+        ("grains that the frame cuts", "left out" if asked.clears else "measured as far as they are seen"),
         ("holes", "filled" if asked.fills else "not filled"),
         ("least area", "none" if asked.least is None else f"{asked.least.text}, so {asked.least.in_pixels(pixel)} pixels"),
         ("pixels hang together", "by sides and corners (8)" if asked.connectivity == 8 else "by sides (4)"),
         ("version", f"morph {__version__}"),
     ]
+
+
+def _split(fall: float) -> str:
+    return f"parted where the distance from the ground falls by more than {fall:g} pixel{'' if fall == 1 else 's'} at a neck"
 
 
 def _threshold(asked: Asked) -> str:

@@ -33,7 +33,8 @@ class Found:
 def asked_of(words: Namespace) -> Asked:
     """What the words of a command line ask for."""
     is_otsu = words.at == "otsu"
-    return Asked(None if is_otsu else words.at, is_otsu, words.dark, words.clear_border, words.fill, words.min_area, words.connectivity)
+    at = None if is_otsu else words.at
+    return Asked(at, is_otsu, words.dark, words.clear_border, words.fill, words.min_area, words.connectivity, words.split)
 
 
 def encoded(text: str) -> bytes:

@@ -35,17 +35,21 @@ PROTOTYPES: dict[str, tuple[Any, ...]] = {
     **{f"morphd_extrema_regional_{kind}": (_U32, *_FRAME, *_TOPS[kind], *_ARRAY, *_ELEMENT, *_ARRAY) for kind in ("u8", "u16")},
     "morphd_label_set": (*_FRAME, *_ARRAY, *_ELEMENT, *_ARRAY, _POINTER),
     "morphd_regions_set": (*_FRAME, *_ARRAY, *_ELEMENT, *_ARRAY, _POINTER),
+    "morphd_components_set": (*_FRAME, *_ARRAY, *_ELEMENT, *_ARRAY, *_ARRAY, _POINTER),
     "morphd_area_set": (_U32, *_FRAME, *_ARRAY, *_ELEMENT, *_ARRAY),
+    **{f"morphd_area_{kind}": (_U32, _U32, *_FRAME, *_TOPS[kind], *_ARRAY, *_ELEMENT, *_ARRAY) for kind in ("u8", "u16")},
     "morphd_distance_set": (_U32, _U32, *_FRAME, *_ARRAY, *_ARRAY),
     "morphd_version": (),
+    "morphd_build": (),
 }
-ANSWERS = {name: _U32 if name == "morphd_version" else ctypes.c_int32 for name in PROTOTYPES}
+ANSWERS = {name: _U32 if name in ("morphd_version", "morphd_build") else ctypes.c_int32 for name in PROTOTYPES}
 
 # The numbers of the operations of the flat calls.
 ERODE, DILATE, OPEN, CLOSE, GRADIENT, WHITE_TOPHAT, BLACK_TOPHAT, RANK = range(8)
-# The methods of reconstructions, the kinds of extrema, and the metrics of distances.
+# The methods of reconstructions, the kinds of extrema and of area operators, and the metrics of distances.
 BY_DILATION, BY_EROSION = range(2)
 MAXIMA, MINIMA = range(2)
+AREA_OPENING, AREA_CLOSING = range(2)
 CITY_BLOCK, CHESSBOARD, SQUARED_EUCLID = range(3)
 
 MEMORY = 50
@@ -57,7 +61,9 @@ _HOW = (
     "libmorphd was not found: build it with `make library` at the top of the repository, or install a wheel that "
     "`make python` made, or set MORPHD_LIBRARY to the path of libmorphd.so.1. Looked for: "
 )
-# What x86-64-v2 has beyond the first x86-64, as Linux calls it: libmorphd uses all of it without asking.
+# What x86-64-v2 has beyond the first x86-64, as Linux calls it: libmorphd uses all of it without asking. What x86-64-v3 has more it
+# looks for itself, unless this variable is v2.
+_CPU = "MORPHD_CPU"
 _INSTRUCTIONS = frozenset(("cx16", "lahf_lm", "pni", "popcnt", "sse4_1", "sse4_2", "ssse3"))
 _PROCESSORS = "/proc/cpuinfo"
 _ANEW = "`make library` makes it anew"
@@ -98,6 +104,9 @@ def _opened(place: str) -> Any:
         call.argtypes, call.restype = types, ANSWERS[name]
     if library.morphd_version() != VERSION:
         raise LibraryMissing(f"{place} has version {library.morphd_version()}, and this package needs {VERSION}; {_ANEW}")
+    told, runs = os.environ.get(_CPU), f"v{library.morphd_build()}"
+    if told and told != runs:
+        raise LibraryMissing(f"{_CPU} is {told!r}, which is not v2, or v3 on a processor that has it: {place} runs its build for x86-64-{runs}")
     return library
 
 
@@ -157,3 +166,16 @@ def library_version() -> int:
     int
     """
     return int(loaded().morphd_version())
+
+
+def library_build() -> str:
+    """The level of x86-64 that the library's build is for which runs here, as it tells it.
+
+    There are two of them, ``x86-64-v2`` and ``x86-64-v3``, which make the same; the second one uses vectors of 32 bytes. The library picks
+    it where the processor has all that it needs. With ``MORPHD_CPU=v2`` in the environment it picks the first one.
+
+    Returns
+    -------
+    str
+    """
+    return f"x86-64-v{loaded().morphd_build()}"

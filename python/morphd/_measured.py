@@ -3,23 +3,25 @@
     found = measured("grains.png", loaded, Asked(at=None))
     print(found.counted)
 
-The steps stand in their order: the threshold, the border, holes, small grains, labels, measures.
+The steps stand in their order: the threshold, the border, holes, small grains, labels, measures. Where grains that touch are parted, that
+comes behind holes, and the border and small grains behind it.
 """
 from __future__ import annotations
 
 import math
 from collections.abc import Sequence
 from dataclasses import dataclass, replace
-from typing import TYPE_CHECKING, Any
+from typing import TYPE_CHECKING, Any, NamedTuple
 
 import numpy as np
 from numpy.typing import NDArray
 
-from . import geodesics, levels, operators
+from . import areas, geodesics, levels, operators
 from ._areas import Area, grains, in_digits, squared
 from .footprints import Footprint, diamond, square
 from .grains import Regions, _mean_and_spread, regions
 from .pixels import Pixel
+from .watersheds import split_grains
 
 if TYPE_CHECKING:
     from .files import Loaded
@@ -50,6 +52,8 @@ class Asked:
         The least area.
     connectivity : int
         4 or 8.
+    split : float or None
+        By how many pixels the distance falls at the necks where grains that touch are parted; None where they are not.
     """
 
     at: float | None = None
@@ -59,6 +63,7 @@ class Asked:
     fills: bool = False
     least: Area | None = None
     connectivity: int = 8
+    split: float | None = None
 
 
 @dataclass(frozen=True)
@@ -82,6 +87,8 @@ class Counted:
         The area of the frame, or of all frames.
     covered : float
         The area of all grains, those that are left out as cut with them.
+    heaps, parts : int
+        How many components were parted, and how many grains came out of them, all that are left out with them.
     """
 
     areas: Numbers
@@ -92,6 +99,8 @@ class Counted:
     small: int
     frame: float
     covered: float
+    heaps: int = 0
+    parts: int = 0
 
     @property
     def diameters(self) -> Numbers:
@@ -129,6 +138,8 @@ class Counted:
             told.append(f"{self.cut} of them cut by the frame")
         if self.small:
             told.append(f"{self.small} too small")
+        if self.heaps:
+            told.append(f"{self.heaps} heap{'s' if self.heaps > 1 else ''} parted into {self.parts}")
         return ", ".join(told)
 
     def tail(self) -> list[str]:
@@ -152,7 +163,7 @@ MEANING = "Diameters are those of discs of the same area, spreads standard devia
 
 def together(parts: Sequence[Counted]) -> Counted:
     """The grains of several pictures, whose sizes have one unit, as those of one."""
-    names = ("inside", "cut", "left_out", "small", "frame", "covered")
+    names = ("inside", "cut", "left_out", "small", "frame", "covered", "heaps", "parts")
     sums = {name: sum(getattr(part, name) for part in parts) for name in names}
     return replace(parts[0], areas=np.concatenate([part.areas for part in parts]), **sums)
 
@@ -226,8 +237,57 @@ def _without_small(found: Set, asked: Asked, least: int) -> tuple[Set, int]:
         found = geodesics.fill_holes(found, around_holes(asked.connectivity))
     if least <= 1:
         return found, 0
-    kept = geodesics.remove_small_objects(found, least, connectivity=steps(asked.connectivity))
+    kept = areas.remove_small_objects(found, least, connectivity=steps(asked.connectivity))
     return kept, numbered(found, asked.connectivity)[1] - numbered(kept, asked.connectivity)[1]
+
+
+class _Kept(NamedTuple):
+    """The grains that are measured, the labels of those that are left out as cut, and how many there are of these, of those that are too
+    small, of pixels of all but the latter, and of heaps and their parts."""
+
+    table: Regions
+    others: Labels
+    left_out: int
+    small: int
+    covered: int
+    heaps: int = 0
+    parts: int = 0
+
+
+def _whole(found: Set, asked: Asked, least: int, side: Pixel) -> _Kept:
+    """The components of the set."""
+    kept = geodesics.clear_border(found, footprint=around(asked.connectivity)) if asked.clears else found
+    whole, small = _without_small(kept, asked, least)
+    cut, small_cut = _without_small(found & ~kept, asked, least) if asked.clears else (np.zeros_like(found), 0)
+    table = regions(whole, connectivity=steps(asked.connectivity), pixel=side)
+    others, left_out = numbered(cut, asked.connectivity)
+    return _Kept(table, others, left_out, small + small_cut, int((whole | cut).sum()))
+
+
+def _parted(found: Set, asked: Asked, least: int, side: Pixel, fall: float) -> _Kept:
+    """The grains that its components are parted into."""
+    filled = geodesics.fill_holes(found, around_holes(asked.connectivity)) if asked.fills else found
+    labels = split_grains(filled, fall, steps(asked.connectivity))
+    areas = np.bincount(labels.ravel(), minlength=1)
+    is_cut, heap_of = np.zeros(len(areas), np.bool_), np.zeros(len(areas), np.int32)
+    for edge in (labels[0], labels[-1], labels[:, 0], labels[:, -1]):
+        is_cut[edge] = True
+    heap_of[labels.ravel()] = numbered(filled, asked.connectivity)[0].ravel()
+    of_heaps = np.bincount(heap_of[1:])
+    is_large = areas >= least
+    is_large[0] = False
+    is_out = is_large & is_cut & asked.clears
+    return _Kept(
+        regions(labels=_renumbered(labels, is_large & ~is_out), pixel=side), _renumbered(labels, is_out), int(is_out.sum()),
+        len(areas) - 1 - int(is_large.sum()), int(areas[is_large].sum()), int((of_heaps > 1).sum()), int(of_heaps[of_heaps > 1].sum()))
+
+
+def _renumbered(labels: Labels, is_kept: Set) -> Labels:
+    """Some of the labels, numbered from 1."""
+    numbers = np.zeros(len(is_kept), np.int32)
+    numbers[is_kept] = np.arange(1, int(is_kept.sum()) + 1)
+    made: Labels = numbers[labels]
+    return made
 
 
 def _why_empty(image: NDArray[Any], asked: Asked) -> str:
@@ -288,15 +348,10 @@ def measured(path: str, loaded: Loaded, asked: Asked, pixel: Pixel | None = None
     if asked.is_otsu and image.dtype != np.bool_:
         asked = replace(asked, at=levels.otsu(image))
     found = _grains(image, asked, maxval)
-    kept = geodesics.clear_border(found, footprint=around(asked.connectivity)) if asked.clears else found
-    whole, small = _without_small(kept, asked, least)
-    cut, small_cut = _without_small(found & ~kept, asked, least) if asked.clears else (np.zeros_like(found), 0)
     side = side or Pixel(1.0, "pixels")
-    table = regions(whole, connectivity=steps(asked.connectivity), pixel=side)
-    others, left_out = numbered(cut, asked.connectivity)
-    touching = int(table["touches_frame"].sum())
-    one = side.size**2
+    kept = _whole(found, asked, least, side) if asked.split is None else _parted(found, asked, least, side, asked.split)
+    table, touching, one = kept.table, int(kept.table["touches_frame"].sum()), side.size**2
     counted = Counted(
-        np.asarray(table["area"], np.float64), side.unit, inside=len(table) - touching, cut=touching + left_out, left_out=left_out,
-        small=small + small_cut, frame=image.size * one, covered=int((whole | cut).sum()) * one)
-    return Measured(path, image, asked, side, table, others, counted, tuple(_doubts(image, found, asked, counted)))
+        np.asarray(table["area"], np.float64), side.unit, inside=len(table) - touching, cut=touching + kept.left_out,
+        left_out=kept.left_out, small=kept.small, frame=image.size * one, covered=kept.covered * one, heaps=kept.heaps, parts=kept.parts)
+    return Measured(path, image, asked, side, table, kept.others, counted, tuple(_doubts(image, found, asked, counted)))

@@ -44,6 +44,19 @@ def _sums(runs: Runs, count: int, each: Numbers) -> Reals:
     return np.asarray(np.bincount(runs.label, each, count + 1)[1:], np.float64)
 
 
+def places_and_boxes(runs: Runs, count: int) -> dict[str, Numbers]:
+    """Of each label the column and row of its first pixel, its area, and its box with both ends: what the library tells of components."""
+    order = np.argsort(runs.label, kind="stable")
+    label, row, begin, end = (each[order] for each in runs)
+    starts = np.searchsorted(label, np.arange(1, count + 1))
+    if not count:
+        return dict.fromkeys(("x", "y", "area", "left", "top", "right", "bottom"), np.zeros(0, np.int64))
+    return {
+        "x": begin[starts], "y": row[starts], "area": np.add.reduceat(end - begin, starts), "left": np.minimum.reduceat(begin, starts),
+        "top": row[starts], "right": np.maximum.reduceat(end, starts) - 1, "bottom": row[np.append(starts[1:], len(label)) - 1],
+    }
+
+
 def centroids(runs: Runs, area: Numbers) -> tuple[Reals, Reals]:
     """The mean column and the mean row of each component."""
     length = runs.end - runs.begin
@@ -93,13 +106,14 @@ def _outlines(runs: Runs) -> tuple[Numbers, Numbers, Numbers, Numbers]:
     starts = np.flatnonzero(is_first)
     label, row = label[starts], row[starts]
     left, right = np.minimum.reduceat(begin, starts), np.maximum.reduceat(end, starts)
-    # each row of a component has the line above it, and the last one that below it too; a component leaves no row out
-    is_last = np.append(label[1:] != label[:-1], True)
+    # each row has the line above it, and that below it too where no pixel lies in the next row
+    goes_on = (label[1:] == label[:-1]) & (row[1:] == row[:-1] + 1)
+    is_last = np.append(~goes_on, True)
     count = 1 + is_last
     line = np.repeat(np.arange(len(label)), count)
     is_below = np.zeros(len(line), np.bool_)
     is_below[np.cumsum(count)[is_last] - 1] = True
-    has_above = np.append(False, label[1:] == label[:-1])
+    has_above = np.append(False, goes_on)
     least, most = left.copy(), right.copy()
     least[has_above] = np.minimum(left[has_above], left[np.flatnonzero(has_above) - 1])
     most[has_above] = np.maximum(right[has_above], right[np.flatnonzero(has_above) - 1])

@@ -19,7 +19,7 @@ from ._plans import Compat
 Array = NDArray[Any]
 _COMPUTING = (
     "gradient", "white_tophat", "black_tophat", "hit_or_miss", "skeleton", "restored", "clear_border", "hmax", "hmin", "local_maxima",
-    "local_minima",
+    "local_minima", "area_opening", "area_closing",
 )
 
 

@@ -1,4 +1,4 @@
-"""What hangs together: reconstruction, holes, borders, extrema, components and distances, each computed by libmorphd.
+"""What hangs together: reconstruction, holes, borders, extrema, labels and distances, each computed by libmorphd.
 
     import morphd
     mask = morphd.clear_border(morphd.fill_holes(morphd.threshold(image, 120)))
@@ -23,15 +23,15 @@ from numpy.typing import ArrayLike, NDArray
 from . import _arrays, _geodesic_calls, _library
 from ._calls import Field, Samples
 from ._docs import COMPUTES, FILLS, documented
-from ._geodesic_calls import Cleared, ClearedBand, Cut, Distances, Filled, Large, Regional, Whole
+from ._geodesic_calls import Cleared, ClearedBand, Cut, Distances, Filled, Regional, Whole
 from ._numbers import whole, word
 from ._work import Array, Options, Work, made_of, planes
 from .errors import Refused
 from .footprints import Footprint, diamond, square
 
 __all__ = [
-    "area_opening", "clear_border", "distance", "fill_holes", "h_maxima", "h_minima", "hmax", "hmin", "label",
-    "local_maxima", "local_minima", "reconstruction", "remove_small_objects",
+    "clear_border", "distance", "fill_holes", "h_maxima", "h_minima", "hmax", "hmin", "label", "local_maxima", "local_minima",
+    "reconstruction",
 ]
 
 FootprintLike = Union[Footprint, ArrayLike]
@@ -190,7 +190,7 @@ def _rebuilt(pair: _Pair, method: Method, footprint: Footprint, out: Array | Non
     return out
 
 
-def _made(name: str, plan: Whole, image: Any, options: Options, made: Any = None) -> Array:
+def made_whole(name: str, plan: Whole, image: Any, options: Options, made: Any = None) -> Array:
     """What a call makes of an array of two axes, or of each plane of it."""
     return made_of(Work(name, lambda _: plan, made), image, options)
 
@@ -243,7 +243,7 @@ def fill_holes(
            [7, 5, 8],
            [0, 6, 0]], dtype=uint8)
     """
-    return _made("fill_holes", Filled(_around(footprint, CROSS)), image, Options(maxval=maxval, axes=axes, out=out))
+    return made_whole("fill_holes", Filled(_around(footprint, CROSS)), image, Options(maxval=maxval, axes=axes, out=out))
 
 
 @documented(COMPUTES)
@@ -299,12 +299,12 @@ def clear_border(
     if width < 0:
         raise ValueError(f"buffer is a number of rows and columns from 0 on: {buffer}")
     if width == 0:
-        return _made("clear_border", Cleared(b), image, options)
+        return made_whole("clear_border", Cleared(b), image, options)
     array = _arrays.as_array(image, axes)
     sides = array.shape if axes is None else [array.shape[axis] for axis in axes if -array.ndim <= axis < array.ndim]
     if any(width >= side for side in sides):
         raise ValueError(f"buffer is less than the sides of the image: {width} of {array.shape}")
-    return _made("clear_border", ClearedBand(b, width + 1), array, options)
+    return made_whole("clear_border", ClearedBand(b, width + 1), array, options)
 
 
 @documented(COMPUTES)
@@ -355,7 +355,7 @@ def hmax(
     array([[False,  True, False,  True, False]])
     """
     plan = Cut(_library.MAXIMA, word(whole(h, "h"), "hmax"), _around(footprint))
-    return _made("hmax", plan, image, Options(maxval=maxval, axes=axes, out=out))
+    return made_whole("hmax", plan, image, Options(maxval=maxval, axes=axes, out=out))
 
 
 @documented(COMPUTES)
@@ -403,7 +403,7 @@ def hmin(
     array([[9, 9, 9, 6, 8]], dtype=uint8)
     """
     plan = Cut(_library.MINIMA, word(whole(h, "h"), "hmin"), _around(footprint))
-    return _made("hmin", plan, image, Options(maxval=maxval, axes=axes, out=out))
+    return made_whole("hmin", plan, image, Options(maxval=maxval, axes=axes, out=out))
 
 
 @documented()
@@ -524,7 +524,7 @@ def local_maxima(
     array([[False,  True,  True, False,  True]])
     """
     plan = Regional(_library.MAXIMA, _around(footprint))
-    return _made("local_maxima", plan, image, Options(maxval=maxval, axes=axes, out=out), np.bool_)
+    return made_whole("local_maxima", plan, image, Options(maxval=maxval, axes=axes, out=out), np.bool_)
 
 
 @documented(COMPUTES)
@@ -567,7 +567,7 @@ def local_minima(
     array([[ True, False, False,  True, False]])
     """
     plan = Regional(_library.MINIMA, _around(footprint))
-    return _made("local_minima", plan, image, Options(maxval=maxval, axes=axes, out=out), np.bool_)
+    return made_whole("local_minima", plan, image, Options(maxval=maxval, axes=axes, out=out), np.bool_)
 
 
 @overload
@@ -641,102 +641,12 @@ def labelled(field: Field, footprint: Footprint) -> tuple[NDArray[np.int32], int
     return labels.view(np.int32), count
 
 
-@documented()
-def area_opening(
-    mask: ArrayLike, area_threshold: int = 64, connectivity: int | None = None, *, axes: tuple[int, int] | None = None,
-    out: Array | None = None,
-) -> NDArray[np.bool_]:
-    """The components of a set that have so many pixels or more.
-
-    Parameters
-    ----------
-    mask : array_like of bool
-        Two axes, unless `axes` is given.
-    area_threshold : int, optional
-        The least area in pixels that stays, from 1 on.
-    %(connectivity)s
-        scikit-image's is 1.
-    %(planes)s
-
-    Returns
-    -------
-    ndarray of bool
-
-    Raises
-    ------
-    %(raises)s
-
-    See Also
-    --------
-    remove_small_objects : The same, with scikit-image's connectivity.
-    opening : Takes away what a footprint does not fit into.
-    skimage.morphology.area_opening : Takes levels, too.
-
-    References
-    ----------
-    .. [1] %(soille)s
-
-    Examples
-    --------
-    >>> import numpy as np, morphd
-    >>> morphd.area_opening(np.array([[1, 1, 0, 1]], bool), 2)
-    array([[ True,  True, False, False]])
-    """
-    return _large("area_opening", mask, whole(area_threshold, "area_threshold"), connectivity, Options(axes=axes, out=out))
-
-
-@documented()
-def remove_small_objects(
-    mask: ArrayLike, min_size: int = 64, connectivity: int = 1, *, axes: tuple[int, int] | None = None, out: Array | None = None,
-) -> NDArray[np.bool_]:
-    """A set without its components of less than so many pixels, as scikit-image has it.
-
-    Parameters
-    ----------
-    mask : array_like of bool
-        Two axes, unless `axes` is given. scikit-image takes labels, too.
-    min_size : int, optional
-        The least area in pixels that stays, from 0 on; at 0 and 1 all stays.
-    connectivity : {1, 2}, optional
-        1 where pixels hang together that share a side, 2 where those that share a corner do, too.
-    %(planes)s
-
-    Returns
-    -------
-    ndarray of bool
-
-    Raises
-    ------
-    %(raises)s
-
-    See Also
-    --------
-    area_opening : The same, with connectivity 2 unless told.
-    skimage.morphology.remove_small_objects
-
-    References
-    ----------
-    .. [1] %(soille)s
-
-    Examples
-    --------
-    >>> import numpy as np, morphd
-    >>> morphd.remove_small_objects(np.array([[1, 1, 0, 1]], bool), 2)
-    array([[ True,  True, False, False]])
-    """
-    least = whole(min_size, "min_size")
-    if least < 0:
-        raise ValueError(f"min_size is a number of pixels from 0 on: {min_size}")
-    return _large("remove_small_objects", mask, max(least, 1), connectivity, Options(axes=axes, out=out))
-
-
-def _large(name: str, mask: Any, least: int, connectivity: int | None, options: Options) -> NDArray[np.bool_]:
-    array = _arrays.as_array(mask, options.axes)
-    if array.dtype != np.bool_:
-        raise Refused(44, f"{name} of an array of {array.dtype}")
-    # no component has more pixels than the library takes
-    plan = Large(word(min(least, _ENDLESS), name), neighbours(connectivity))
-    return _made(name, plan, array, options)
+def regioned(field: Field, footprint: Footprint) -> tuple[NDArray[np.int32], NDArray[np.uint32]]:
+    """The labels of a set, and a row of what is told of each component."""
+    if not field.samples.size:
+        return np.zeros(field.samples.shape, np.int32), np.zeros((0, len(_geodesic_calls.REGION)), np.uint32)
+    labels, rows = _geodesic_calls.regions(field, footprint)
+    return labels.view(np.int32), rows
 
 
 @documented()

@@ -2,12 +2,14 @@
 
     grains = morphd.regions(mask, pixel="0.32um")
     print(grains.summary())
+    morphd.regions(labels=morphd.split_grains(mask))        # where grains touch one another
     grains["equivalent_diameter"]                   # in µm
     grains[grains["area"] > 5].to_csv("grains.csv")
     grains.inside.histogram(weights="area", bins=20)
 
-Labels, areas in pixels, boxes and first places come from libmorphd, and are proved to be those of the definition. What is made of
-them beyond (centroids, diameters, perimeters, samples of an image, sums and means) is NumPy's, and tested.
+Labels, areas in pixels, boxes and first places of a set come from libmorphd, and are proved to be those of the definition. What is
+made of them beyond (centroids, diameters, perimeters, samples of an image, sums and means), and all that is measured on labels that are
+given, is NumPy's, and tested.
 """
 from __future__ import annotations
 
@@ -27,7 +29,7 @@ from numpy.typing import ArrayLike, NDArray
 from . import _arrays, _geodesic_calls, _measures
 from ._docs import documented
 from .errors import Refused
-from .geodesics import as_set, labelled, neighbours
+from .geodesics import as_set, neighbours, regioned
 from .pixels import pixel_size
 
 __all__ = ["Region", "Regions", "Summary", "regions"]
@@ -132,7 +134,7 @@ def _mean_and_spread(values: Column, weights: Column) -> tuple[float, float]:
 
 @dataclass(frozen=True, eq=False)
 class Regions:
-    """The components of a set, a row each, in the order of their first pixels.
+    """The components of a set, a row each, in the order of their first pixels; or grains by labels, in the order of these.
 
     ``len(grains)`` is how many there are; iterating gives a named tuple for each. ``grains["area"]`` is a column, ``grains[3]`` a row,
     and ``grains[grains["area"] > 50]`` the table of some of them, which keep their labels.
@@ -145,7 +147,7 @@ class Regions:
     touches_frame tells of those with a pixel in the first or last row or column: they are cut, so their measures are of a part.
     With an image there are intensity_mean, intensity_min and intensity_max, of the samples on each.
 
-    label, area, x, y and the box come from the library, whose call is proved; all else is NumPy's.
+    label, area, x, y and the box of components come from the library, whose call is proved; all else is NumPy's.
 
     Attributes
     ----------
@@ -156,7 +158,7 @@ class Regions:
     shape : (int, int)
         The rows and columns of the array.
     labels : ndarray of int32
-        The label of each pixel, as `label` gives it; also of the grains that were left out of the table.
+        The label of each pixel, as `label` gives it, or as it was given; also of the grains that were left out of the table.
     """
 
     _held: Mapping[str, Column]
@@ -385,19 +387,24 @@ def _checked_image(intensity: Any, shape: tuple[int, ...]) -> Column:
 
 @documented()
 def regions(
-    mask: ArrayLike, *, connectivity: int | None = None, pixel: float | str | tuple[float, str] | None = None,
-    intensity: ArrayLike | None = None,
+    mask: ArrayLike | None = None, *, connectivity: int | None = None, pixel: float | str | tuple[float, str] | None = None,
+    intensity: ArrayLike | None = None, labels: ArrayLike | None = None,
 ) -> Regions:
-    """A table of the components of a set: places, areas and other measures of each.
+    """A table of the components of a set, or of grains that have labels: places, areas and other measures of each.
 
     Parameters
     ----------
     %(mask)s
+        Left out where `labels` are given.
     %(connectivity)s
+        Labels take none.
     pixel : float, str or (float, str), optional
         The side of a pixel, as 0.32 or '0.32um'; measures are in pixels if left out.
     intensity : array_like, optional
         An image of the same shape, whose samples are measured on each component.
+    labels : array_like of int, optional
+        In the place of `mask`, the number of the grain at each pixel, as `split_grains`, `watershed` and `label` give it: 0 where there is
+        none. Each other number is a grain, whether it hangs together or not.
 
     Returns
     -------
@@ -410,14 +417,16 @@ def regions(
     See Also
     --------
     label : The label of each pixel.
+    split_grains : Labels of grains that touch one another.
     clear_border, area_opening, fill_holes : What is often done before.
-    spectrum : Sizes by openings, where grains touch one another.
+    spectrum : Sizes by openings.
     skimage.measure.regionprops_table : Boxes end behind the last pixel there; its feret_diameter_max goes between middles of the
         sides of pixels, and is up to a pixel shorter; its perimeter is another estimate.
 
     Notes
     -----
-    Labels, areas, first places and boxes are those of the library, whose calls are proved. All else is computed of them by NumPy.
+    Labels, areas, first places and boxes of a set are those of the library, whose calls are proved. All else is computed of them by
+    NumPy, and so are areas, places and boxes where labels are given.
 
     References
     ----------
@@ -435,20 +444,48 @@ def regions(
     >>> grains["feret_max"]
     array([1.41421356, 0.70710678])
     """
-    b, field = neighbours(connectivity), as_set(mask, "regions")
-    size, unit = pixel_size(1 if pixel is None else pixel)
+    b, (size, unit) = neighbours(connectivity), pixel_size(1 if pixel is None else pixel)
+    if (mask is None) == (labels is None):
+        raise TypeError("regions takes a mask, or labels")
+    if labels is not None:
+        if connectivity is not None:
+            raise ValueError("connectivity goes with a mask: labels tell what is a grain")
+        held_labels = _checked_labels(labels)
+        image = None if intensity is None else _checked_image(intensity, held_labels.shape)
+        return _by_labels(held_labels, image, size, unit)
+    field = as_set(mask, "regions")
     image = None if intensity is None else _checked_image(intensity, field.samples.shape)
-    labels, count = labelled(field, b)
-    told = _geodesic_calls.regions(field, b, count) if count else np.zeros((0, len(_geodesic_calls.REGION)), np.uint32)
-    held: dict[str, Column] = {"label": np.arange(1, count + 1), **dict(zip(_geodesic_calls.REGION, told.T.astype(np.int64)))}
-    held.update(_measured(held, labels, image))
+    made, told = regioned(field, b)
+    held: dict[str, Column] = {"label": np.arange(1, len(told) + 1), **dict(zip(_geodesic_calls.REGION, told.T.astype(np.int64)))}
+    held.update(_measured(held, made, _measures.runs_of(made), image))
+    return Regions(held, made, size, unit)
+
+
+def _checked_labels(labels: Any) -> NDArray[np.int32]:
+    array = _arrays.as_array(labels, None)
+    if array.dtype.kind not in "iu":
+        raise TypeError(f"labels are whole numbers, and these are of {array.dtype}: a set is a mask")
+    least, most = int(array.min(initial=0)), int(array.max(initial=0))
+    if least < 0 or most > np.iinfo(np.int32).max:
+        raise Refused(47, f"regions by a label of {least if least < 0 else most}")
+    return array.astype(np.int32)
+
+
+def _by_labels(labels: NDArray[np.int32], image: Column | None, size: float, unit: str) -> Regions:
+    """The table of the grains that have labels, of which some numbers may be missing."""
+    runs, dense = _measures.runs_of(labels), labels
+    numbers = np.unique(runs.label)
+    if len(numbers) and numbers[-1] > len(numbers):
+        dense = np.searchsorted(numbers, labels).astype(np.int32) + (labels > 0)
+        runs = _measures.runs_of(dense)
+    held: dict[str, Column] = {"label": numbers, **_measures.places_and_boxes(runs, len(numbers))}
+    held.update(_measured(held, dense, runs, image))
     return Regions(held, labels, size, unit)
 
 
-def _measured(told: Mapping[str, Column], labels: NDArray[np.int32], image: Column | None) -> dict[str, Column]:
-    """The columns that are computed of what the library tells, of the labels, and of an image."""
+def _measured(told: Mapping[str, Column], labels: NDArray[np.int32], runs: _measures.Runs, image: Column | None) -> dict[str, Column]:
+    """The columns that are computed of places and boxes, of the labels with their runs, and of an image."""
     (rows, columns), area = labels.shape, told["area"]
-    runs = _measures.runs_of(labels)
     across, down = _measures.centroids(runs, area)
     return {
         "width": told["right"] - told["left"] + 1, "height": told["bottom"] - told["top"] + 1,

@@ -228,6 +228,17 @@ def regions_set(width, height, address, count, *rest):
     put([number for row in rows for number in row], ctypes.c_uint32, out, 7 * len(rows))
 
 
+def components_set(*arguments):
+    *rest, regions, regions_count, components = arguments
+    f, b, out, out_count = figured("set", *rest)
+    unless(reference_model.is_symmetric(b), 55)
+    rows = [reference_model.region(places) for places in reference_model.components(b, f)]
+    put([len(rows)], ctypes.c_uint32, components, 1)
+    unless(regions_count >= 7 * len(rows), 11)
+    put(reference_model.labelling(b, f)[0], ctypes.c_uint32, out, out_count)
+    put([number for row in rows for number in row], ctypes.c_uint32, regions, 7 * len(rows))
+
+
 def area_set(least, *rest):
     unless(least >= 1, 47)
     f, b, out, out_count = figured("set", *rest)
@@ -235,12 +246,34 @@ def area_set(least, *rest):
     put(reference_model.large_components(b, least, f).samples, ctypes.c_uint8, out, out_count)
 
 
+def area(kind):
+    def call(which, least, *rest):
+        unless(which < 2 and least >= 1, 47)
+        f, b, out, out_count = figured(kind, *rest)
+        unless(reference_model.is_symmetric(b), 55)
+        made = (reference_model.area_opening, reference_model.area_closing)[which]
+        put(made(b, least, f).samples, TYPES[kind], out, out_count)
+    return call
+
+
+def squared_distance(top, f):
+    """`squared_distance` of the reference model, which takes the square of the time: the nearest place in each row, and the nearest of these."""
+    import numpy
+
+    is_ground = numpy.array(f.samples).reshape(f.height, f.width) == 0
+    columns, rows = numpy.arange(f.width), numpy.arange(f.height)
+    squares = (columns[:, numpy.newaxis] - columns) ** 2
+    across = numpy.array([numpy.where(ground, squares, top).min(axis=1) for ground in is_ground])
+    made = [(across + (rows - y)[:, numpy.newaxis] ** 2).min(axis=0) for y in range(f.height)]
+    return numpy.minimum(made, top).ravel().tolist()
+
+
 def distance_set(metric, top, width, height, address, count, out, out_count):
     unless(metric < 3 and top >= 1, 47)
     f = image("set", width, height, 1, address, count)
     unless(out_count == count, 11)
     steps = (reference_model.CROSS, reference_model.SQUARE)
-    made = reference_model.squared_distance(top, f) if metric == 2 else reference_model.distance(steps[metric], top, f)
+    made = squared_distance(top, f) if metric == 2 else reference_model.distance(steps[metric], top, f)
     put(made, ctypes.c_uint32, out, out_count)
 
 
@@ -259,12 +292,14 @@ BODIES = {
     **{f"morphd_extrema_regional_{kind}": extrema_regional(kind) for kind in ("u8", "u16")},
     "morphd_label_set": label_set,
     "morphd_regions_set": regions_set,
+    "morphd_components_set": components_set,
     "morphd_area_set": area_set,
+    **{f"morphd_area_{kind}": area(kind) for kind in ("u8", "u16")},
     "morphd_distance_set": distance_set,
 }
 # Those whose result has samples of the image's type, or of four bytes.
-OF_ITS_TYPE = ("flat", "miss", "reconstruct", "fill", "clear", "extrema_h")
-OF_WORDS = ("label", "regions", "distance")
+OF_ITS_TYPE = ("flat", "miss", "reconstruct", "fill", "clear", "extrema_h", "area")
+OF_WORDS = ("label", "regions", "components", "distance")
 
 
 def size_of_result(name, of_image):
@@ -324,6 +359,9 @@ class Library:
 
     def morphd_version(self):
         return _library.VERSION
+
+    def morphd_build(self):
+        return 2
 
 
 library = Library()

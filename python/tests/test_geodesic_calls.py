@@ -11,7 +11,7 @@ KINDS = {"u8": np.uint8, "u16": np.uint16, "set": np.uint8}
 class Call:
     """A call of the library with arguments that it takes, as names with their values in its order."""
 
-    def __init__(self, name, numbers, images=1, words=False, has_element=True, room=6, has_count=False):
+    def __init__(self, name, numbers, images=1, words=False, has_element=True, room=6, has_count=False, rows=0):
         kind = name.rpartition("_")[2]
         self.name, self.arguments, self.kept = name, dict(numbers), []
         for image in ("marker", "image")[2 - images :]:
@@ -26,6 +26,9 @@ class Call:
         # one more than the call is told
         self.out = np.full(room + 1, 77, np.uint32 if words else np.uint8 if "regional" in name else KINDS[kind])
         self.arguments.update({"out": self.address(self.out), "room": room})
+        self.rows = np.full(rows + 1, 77, np.uint32)
+        if rows:
+            self.arguments.update({"regions": self.address(self.rows), "regions room": rows})
         self.count = np.full(1, 77, np.uint32)
         if has_count:
             self.arguments["components"] = self.address(self.count)
@@ -42,7 +45,7 @@ class Call:
 
     def refuses(self, number, **changed):
         assert self.answer(**changed) == number, (self.name, changed)
-        assert (self.out == 77).all() and (self.count == 77).all(), (self.name, changed)
+        assert all((each == 77).all() for each in (self.out, self.rows, self.count)), (self.name, changed)
 
 
 def calls():
@@ -54,8 +57,10 @@ def calls():
     for kind in ("u8", "u16"):
         yield Call(f"morphd_extrema_h_{kind}", {"kind": 0, "h": 1})
         yield Call(f"morphd_extrema_regional_{kind}", {"kind": 0})
+        yield Call(f"morphd_area_{kind}", {"kind": 0, "least": 1})
     yield Call("morphd_label_set", {}, words=True, has_count=True)
     yield Call("morphd_regions_set", {}, words=True, room=21, has_count=True)
+    yield Call("morphd_components_set", {}, words=True, has_count=True, rows=21)
     yield Call("morphd_area_set", {"least": 1})
     yield Call("morphd_distance_set", {"metric": 0, "top": 9}, words=True, has_element=False)
 
@@ -63,7 +68,7 @@ def calls():
 ALL = {call.name: call for call in calls()}
 NUMBERS = {
     "reconstruct": [{"method": 2}, {"method": 2**32 - 1}], "extrema_h": [{"kind": 2}, {"h": 0}, {"h": 65536}],
-    "extrema_regional": [{"kind": 2}], "area": [{"least": 0}], "distance": [{"metric": 3}, {"top": 0}]}
+    "extrema_regional": [{"kind": 2}], "area_u": [{"kind": 2}, {"least": 0}], "area_set": [{"least": 0}], "distance": [{"metric": 3}, {"top": 0}]}
 
 
 def fresh(name):
@@ -72,7 +77,7 @@ def fresh(name):
 
 def faults(name):
     """What can be wrong with a call, in the order in which it is told: the arguments, and the number."""
-    yield from (({each: value}, 47) for key, changes in NUMBERS.items() if f"morphd_{key}_" in name for change in changes
+    yield from (({each: value}, 47) for key, changes in NUMBERS.items() if f"morphd_{key}" in name for change in changes
                 for each, value in change.items())
     for image in (("marker", "image") if "reconstruct" in name else ("image",)):
         yield from (({f"{image}_{side}": value}, 22) for side in ("width", "height") for value in (0, 8193))
@@ -94,7 +99,7 @@ def faults(name):
         yield {"element_count": 2}, 11
         yield from (({place: value}, 31) for place, value in (("x", 3), ("y", 1)))
         yield {"no pixel": True}, 32
-    if any(word in name for word in ("label", "regions", "area")):
+    if any(word in name for word in ("label", "regions", "components", "area")):
         yield {"one way": True}, 55
 
 
@@ -158,6 +163,21 @@ def test_regions_that_do_not_fit():
     assert call.answer(room=0) == 0 and call.count[0] == 0
     call = fresh("morphd_regions_set")
     call.refuses(55, room=0, pixels=call.address(np.array([1, 1, 0], np.uint8)))
+
+
+def test_labels_of_which_the_regions_do_not_fit():
+    """How many there are is told, and neither array is written."""
+    for room, answer in ((0, 11), (7, 11), (13, 11), (14, 0), (15, 0), (21, 0)):
+        call = fresh("morphd_components_set")
+        assert call.answer(regions_room=room) == answer and call.count[0] == 2
+        if answer:
+            assert (call.out == 77).all() and (call.rows == 77).all()
+        else:
+            assert call.out.tolist() == [0, 1, 0, 2, 2, 0, 77]
+            assert call.rows[:14].tolist() == [1, 0, 1, 1, 0, 1, 0, 0, 1, 2, 0, 1, 1, 1] and (call.rows[14:] == 77).all()
+    call = fresh("morphd_components_set")
+    call.refuses(11, room=5, regions_room=0)
+    call.refuses(55, regions_room=0, pixels=call.address(np.array([1, 1, 0], np.uint8)))
 
 
 def test_labels_and_their_number():

@@ -179,7 +179,7 @@ def test_reconstructions():
 
 
 def test_sets():
-    for _, rng, image, _ in random_cases(5, 84):
+    for _, _, image, _ in random_cases(5, 84):
         if image.dtype != bool:
             continue
         f = plain.image(image)
@@ -188,8 +188,6 @@ def test_sets():
             made, told = morphd.label(image, connectivity, return_num=True)
             same(made, np.array(labels, np.int32).reshape(image.shape))
             assert told == count
-            least = int(rng.integers(1, 9))
-            same(morphd.area_opening(image, least, connectivity), plain.array(reference_model.large_components(b, least, f), bool))
         if not image.all():
             squares = np.array(reference_model.squared_distance(10**6, f)).reshape(image.shape)
             same(morphd.distance(image, "sqeuclidean"), squares.astype(np.int32))
@@ -301,9 +299,6 @@ def test_small_objects_of_scikit_image():
         for size in (0, 1, 3, 12, 64):
             same(morphd.remove_small_objects(image, size), morphology.remove_small_objects(image, size))
             same(morphd.remove_small_objects(image, size, 2), morphology.remove_small_objects(image, size, 2))
-            if size:
-                same(morphd.area_opening(image, size, 1), morphology.area_opening(image, size, 1))
-                same(morphd.area_opening(image, size), morphology.area_opening(image, size, 2))
 
 
 def test_distances_of_scipy():
@@ -331,9 +326,10 @@ ONE_IMAGE = {
     "hmax": lambda image, **options: morphd.hmax(image, 1, **options), "hmin": lambda image, **options: morphd.hmin(image, 1, **options),
     "local_maxima": morphd.local_maxima, "local_minima": morphd.local_minima,
     "area_opening": lambda image, **options: morphd.area_opening(image, 2, **options),
+    "area_closing": lambda image, **options: morphd.area_closing(image, 3, **options),
     "remove_small_objects": lambda image, **options: morphd.remove_small_objects(image, 2, **options),
 }
-OF_SETS = ("area_opening", "remove_small_objects")
+OF_SETS = ("remove_small_objects",)
 
 
 def arrangements(image):
@@ -470,7 +466,8 @@ def test_memory_is_not_copied(monkeypatch, dtype):
     seed = image // 2 if dtype != bool else image & np.roll(image, 1)
     out = np.empty_like(image)
     for call in (lambda: morphd.reconstruction(seed, image, out=out), lambda: morphd.fill_holes(image, out=out),
-                 lambda: morphd.clear_border(image, out=out), lambda: morphd.hmax(image, 1, out=out)):
+                 lambda: morphd.clear_border(image, out=out), lambda: morphd.hmax(image, 1, out=out),
+                 lambda: morphd.area_opening(image, out=out), lambda: morphd.area_closing(image, out=out)):
         asked.clear()
         assert call() is out
         (_, arguments), = asked
@@ -478,7 +475,7 @@ def test_memory_is_not_copied(monkeypatch, dtype):
         if "reconstruct" in asked[0][0]:
             assert seed.ctypes.data in arguments
     if dtype == bool:
-        for call in (morphd.label, morphd.distance, morphd.area_opening, lambda mask: morphd.label(mask.view(np.uint8))):
+        for call in (morphd.label, morphd.distance, morphd.remove_small_objects, lambda mask: morphd.label(mask.view(np.uint8))):
             asked.clear()
             made = call(image)
             assert image.ctypes.data in asked[0][1] and (made.ctypes.data in asked[0][1] or made.dtype == float)
@@ -525,6 +522,8 @@ def test_one_call_of_the_library_each(stood_in):
         (lambda: morphd.fill_holes(mask), "fill_set"), (lambda: morphd.clear_border(image.astype(np.uint16)), "clear_border_u16"),
         (lambda: morphd.hmax(image, 3), "extrema_h_u8"), (lambda: morphd.local_minima(image), "extrema_regional_u8"),
         (lambda: morphd.label(mask), "label_set"), (lambda: morphd.area_opening(mask), "area_set"),
+        (lambda: morphd.area_opening(image), "area_u8"), (lambda: morphd.area_closing(image.astype(np.uint16)), "area_u16"),
+        (lambda: morphd.area_closing(mask), "area_u8"),
         (lambda: morphd.remove_small_objects(mask), "area_set"), (lambda: morphd.distance(mask), "distance_set"),
         (lambda: morphd.clear_border(image, 1), "reconstruct_u8")):
         stand_in.calls.clear()
@@ -550,7 +549,9 @@ REFUSED = [
     (47, lambda: morphd.hmax(GREY, 1 << 40)),
     (47, lambda: morphd.area_opening(SET, 0)),
     (47, lambda: morphd.area_opening(SET, -3)),
-    (44, lambda: morphd.area_opening(GREY)),
+    (47, lambda: morphd.area_closing(GREY, 0)),
+    (25, lambda: morphd.area_opening(GREY, maxval=6)),
+    (23, lambda: morphd.area_closing(GREY, maxval=0)),
     (44, lambda: morphd.remove_small_objects(GREY)),
     (44, lambda: morphd.label(GREY)),
     (32, lambda: morphd.fill_holes(GREY, [[0]])),
@@ -584,6 +585,9 @@ def test_refusals(number, call):
     (lambda: morphd.remove_small_objects(SET, -1), ValueError, "from 0 on"),
     (lambda: morphd.hmax(GREY, 1.5), TypeError, "h is a whole number"),
     (lambda: morphd.area_opening(SET, 2.0), TypeError, "area_threshold is a whole number"),
+    (lambda: morphd.area_opening(GREY / 2), TypeError, "computes with samples"),
+    (lambda: morphd.area_closing(GREY.astype(int)), TypeError, "computes with samples"),
+    (lambda: morphd.area_closing(GREY, 2, 3), ValueError, "connectivity is 1"),
     (lambda: morphd.label(SET, 3), ValueError, "connectivity is 1"),
     (lambda: morphd.label(SET, 0), ValueError, "connectivity is 1"),
     (lambda: morphd.label(SET, "4"), TypeError, "connectivity is a whole number"),
@@ -619,7 +623,8 @@ def test_want_of_memory(stood_in):
         (lambda: morphd.reconstruction(GREY, GREY), "reconstruction by dilation with .* of 1 x 3 samples up to 255 from 1 x 3"),
         (lambda: morphd.label(SET), "labels by .* of a set of 1 x 3"), (lambda: morphd.distance(SET), "distances of a set"),
         (lambda: morphd.area_opening(SET), "components of 64 pixels and more"), (lambda: morphd.hmax(GREY, 2), "h-maxima of 2"),
-        (lambda: morphd.local_minima(GREY), "regional minima"), (lambda: morphd.regions(SET), "labels by")):
+        (lambda: morphd.area_closing(GREY), "area closing of 64 pixels"), (lambda: morphd.local_minima(GREY), "regional minima"),
+        (lambda: morphd.regions(SET), "regions by")):
         with pytest.raises(OutOfMemory, match=told):
             call()
 

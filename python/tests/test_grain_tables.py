@@ -123,6 +123,65 @@ def test_feret_diameters_of_scikit_image():
                 assert ours - 1 <= region.feret_diameter_max <= ours + 1e-9
 
 
+def same_tables(made, wanted):
+    assert made.columns == wanted.columns and (made.unit, made.pixel) == (wanted.unit, wanted.pixel)
+    for name in wanted.columns:
+        assert made[name].dtype == wanted[name].dtype, name
+        np.testing.assert_array_equal(made[name], wanted[name], name)
+
+
+def test_labels_are_measured_as_the_set_that_they_are_of():
+    for rng, mask in random_masks(21, 30):
+        image = rng.integers(0, 99, mask.shape)
+        for connectivity in (1, 2):
+            wanted = morphd.regions(mask, connectivity=connectivity, pixel="0.5um", intensity=image)
+            for dtype in ("i4", "i8", ">i2", "u1"):
+                labels = morphd.label(mask, connectivity).astype(dtype)
+                made = morphd.regions(labels=labels, pixel="0.5um", intensity=image)
+                same_tables(made, wanted)
+                np.testing.assert_array_equal(made.labels, labels)
+                assert made.labels.dtype == np.int32 and (made.mask == mask).all()
+
+
+def test_labels_that_touch_and_fall_apart():
+    """Each number is a grain, in the order of the numbers; some are missing, and pixels of one need not hang together."""
+    rng = np.random.default_rng(22)
+    for number in range(30):
+        labels = rng.choice([0, 2, 3, 7, 1000], rng.integers(1, 12, 2))
+        grains = morphd.regions(labels=labels)
+        assert grains["label"].tolist() == sorted(set(labels.flat) - {0})
+        for grain in grains:
+            down, right = np.nonzero(labels == grain.label)
+            assert grain[1:8] == (right[0], down[0], len(down), right.min(), down.min(), right.max(), down.max())
+            assert (grain.centroid_x, grain.centroid_y) == pytest.approx((right.mean(), down.mean()))
+            assert (grain.feret_max, grain.perimeter) == slow(labels, grain.label)
+        assert (grains[grains["label"] > 2].mask == (labels > 2)).all()
+        cut = set(labels[0]) | set(labels[-1]) | set(labels[:, 0]) | set(labels[:, -1])
+        assert [grain.label for grain in grains if grain.touches_frame] == sorted(cut - {0})
+
+
+def test_tables_of_no_label():
+    for shape in ((0, 4), (3, 0), (3, 4)):
+        same_tables(morphd.regions(labels=np.zeros(shape, int)), morphd.regions(np.zeros(shape, bool)))
+
+
+def test_labels_that_are_refused():
+    for labels in ([[1, -1]], [[1, 2**31]]):
+        with pytest.raises(morphd.Refused) as told:
+            morphd.regions(labels=labels)
+        assert told.value.number == 47
+    with pytest.raises(morphd.Refused) as told:
+        morphd.regions(labels=[[1, 2]], intensity=[[1], [2]])
+    assert told.value.number == 53
+    for options, told in (({}, "a mask, or labels"), ({"mask": [[True]], "labels": [[1]]}, "a mask, or labels"), ({"labels": [[True]]}, "whole"),
+                          ({"labels": [[1.0]]}, "labels are whole numbers")):
+        with pytest.raises(TypeError, match=told):
+            morphd.regions(**options)
+    for options in ({"labels": [[1]], "connectivity": 1}, {"labels": [1, 2]}):
+        with pytest.raises(ValueError):
+            morphd.regions(**options)
+
+
 def test_frames_of_one_row_and_column():
     for mask in ([[1, 1, 0, 1]], [[1], [0], [1], [1]], [[1]]):
         grains = morphd.regions(np.array(mask, bool))
@@ -287,11 +346,22 @@ def test_plots():
     pyplot.close("all")
 
 
-def test_the_table_asks_for_labels_and_regions_once(stood_in):
+def test_the_table_asks_for_labels_and_regions_at_once(stood_in):
     import stand_in
 
     morphd.regions(MASK)
-    assert stand_in.calls == {"morphd_label_set": 1, "morphd_regions_set": 1}
+    assert stand_in.calls == {"morphd_components_set": 1}
+
+
+def test_more_components_than_there_was_room_for(stood_in):
+    """Their number is told, and the library asked once more."""
+    import stand_in
+
+    dots = np.zeros((20, 30), np.bool_)
+    dots[::2, ::2] = True
+    grains = morphd.regions(dots)
+    assert stand_in.calls == {"morphd_components_set": 2}
+    assert len(grains) == 150 and (grains["area"] == 1).all() and (grains["x"] == grains["left"]).all()
 
 
 def test_many_grains_take_no_longer_each():

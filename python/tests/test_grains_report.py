@@ -140,6 +140,25 @@ def test_what_was_asked_for(folder):
     assert told["grains that the frame cuts"] == "measured as far as they are seen" and told["pixels hang together"] == "by sides and corners (8)"
 
 
+def test_heaps_that_are_parted(folder):
+    """Two squares that overlap at a corner of two pixels: the report tells what was asked for, and how many came of it."""
+    image = np.full((18, 20), 30, np.uint8)
+    image[1:8, 1:8] = image[6:13, 6:13] = 190
+    morphd.write(folder / "heap.pgm", image)
+    _, page = report(folder, "--split 1.5 --pixel 0.5um", files="@heap.pgm")
+    told = dict(page.table("What was asked for"))
+    assert told["grains that touch"] == "parted where the distance from the ground falls by more than 1.5 pixels at a neck"
+    counted = dict(page.table("What was counted"))
+    assert (counted["grains that are measured"], counted["heaps that are parted"], counted["grains out of these"]) == ("2", "1", "2")
+    areas = [float(line[1]) for line in page.table("that of Feret")[1:]]
+    assert sum(areas) == pytest.approx((49 + 49 - 4) * SIDE**2)
+    assert "2 grains, 1 heap parted into 2. Mean diameter" in " ".join(page.text)
+    _, page = report(folder, "--split 1", files="@heap.pgm")
+    assert dict(page.table("What was asked for"))["grains that touch"].endswith("by more than 1 pixel at a neck")
+    _, page = report(folder, "", files="@heap.pgm")
+    assert "grains that touch" not in dict(page.table("What was asked for")) and "heaps that are parted" not in dict(page.table("What was counted"))
+
+
 def test_each_grain(folder):
     _, page = report(folder, "--pixel 0.5um")
     head, *rows = page.table("The greatest diameter is that of Feret")

@@ -46,6 +46,82 @@ def test_the_built_library():
         pytest.skip("no library is built")
     assert isinstance(_library.loaded(), ctypes.CDLL)
     assert morphd.library_version() == _library.VERSION
+    assert morphd.library_build() in ("x86-64-v2", "x86-64-v3")
+
+
+def build_for(monkeypatch, folder, told):
+    """A build of the library, of a copy, since a process loads each file once and picks a build then."""
+    place = _library.loaded()._name
+    if not os.path.isabs(place):
+        pytest.skip(f"the library is {place} of the system")
+    monkeypatch.setenv("MORPHD_CPU", told)
+    return _library._opened(shutil.copy(place, folder / f"{told}.so"))
+
+
+def made_of(image, other):
+    """What each kind of call makes of a picture and of another of its sides: arrays by a name."""
+    bars = morphd.line(9, 45), morphd.disk(2), morphd.disk(8), morphd.square(3), morphd.square(9), morphd.rectangle(17, 1)
+    for name in ("erosion", "dilation", "opening", "closing", "gradient", "white_tophat", "black_tophat", "median"):
+        for number, footprint in enumerate(bars):
+            yield f"{name} {number}", getattr(morphd, name)(image, footprint)
+    yield "rank", morphd.rank(image, 5, morphd.disk(4))
+    yield "hit or miss", morphd.hit_or_miss(image, morphd.square(3), [[1, 0, 0, 0, 1]])
+    yield "spectrum", np.asarray(morphd.spectrum(image, morphd.square(3), 4).volumes)
+    yield "holes", morphd.fill_holes(image)
+    yield "border", morphd.clear_border(image)
+    yield "reconstruction", morphd.reconstruction(np.minimum(image, other), image)
+    if image.dtype == bool:
+        yield "skeleton", morphd.skeleton(image, morphd.square(3), 5)
+        yield "labels", morphd.label(image)
+        yield "distances", morphd.distance(image, metric="euclidean")
+        yield "areas", morphd.area_opening(image, 5)
+        yield "regions", morphd.regions(image)["area"]
+    else:
+        yield "threshold", morphd.threshold(image, int(image.mean()))
+        yield "maxima", morphd.local_maxima(image)
+        yield "domes", morphd.hmax(image, 7)
+
+
+@pytest.mark.filterwarnings("ignore::UserWarning")
+def test_both_builds_make_the_same(monkeypatch, tmp_path):
+    if conftest.USES_STAND_IN:
+        pytest.skip("no library is built")
+    older = build_for(monkeypatch, tmp_path, "v2")
+    try:
+        newer = build_for(monkeypatch, tmp_path, "v3")
+    except morphd.LibraryMissing:
+        pytest.skip("this processor has no x86-64-v3")
+    assert (older.morphd_build(), newer.morphd_build()) == (2, 3)
+    chance = np.random.default_rng(7)
+    before = _library.use(older)
+    try:
+        for width in (1, 15, 31, 33, 64, 130):
+            for kind in (np.uint8, np.uint16):
+                image, other = chance.integers(0, np.iinfo(kind).max, (2, 37, width), kind)
+                for pair in ((image, other), (image % 3 > 0, other % 3 > 0)):
+                    _library.use(older)
+                    assert morphd.library_build() == "x86-64-v2"
+                    wanted = dict(made_of(*pair))
+                    _library.use(newer)
+                    assert morphd.library_build() == "x86-64-v3"
+                    for name, made in made_of(*pair):
+                        assert np.array_equal(made, wanted[name]), (name, width, pair[0].dtype)
+    finally:
+        _library.use(before)
+
+
+@pytest.mark.parametrize("told", ["v4", "V2", "x86-64-v2", "2"])
+def test_a_build_that_is_not_there_is_told(monkeypatch, tmp_path, told):
+    if conftest.USES_STAND_IN:
+        pytest.skip("no library is built")
+    with pytest.raises(morphd.LibraryMissing, match=f"MORPHD_CPU is '{told}', which is not v2, or v3 on .*for x86-64-v[23]$"):
+        build_for(monkeypatch, tmp_path, told)
+
+
+def test_no_word_for_a_build_is_none(monkeypatch, tmp_path):
+    if conftest.USES_STAND_IN:
+        pytest.skip("no library is built")
+    assert build_for(monkeypatch, tmp_path, "").morphd_build() in (2, 3)
 
 
 def test_a_missing_library_says_how_to_build_it(monkeypatch, tmp_path):
@@ -135,16 +211,16 @@ def test_the_package_names_what_it_has():
     assert set(morphd.__all__) <= set(dir(morphd))
     assert all(getattr(morphd, name) is not None for name in morphd.__all__)
     with pytest.raises(AttributeError):
-        morphd.watershed
+        morphd.random_walker
 
 
 def test_examples_of_docstrings():
     """Run where NumPy prints as the examples have it."""
     import doctest
 
-    from morphd import curves, footprints, geodesics, grains, operators
+    from morphd import curves, footprints, geodesics, grains, operators, watersheds
 
-    for module in (footprints, operators, geodesics, grains, curves):
+    for module in (footprints, operators, geodesics, grains, curves, watersheds):
         outcome = doctest.testmod(module)
         assert outcome.failed == 0
     assert outcome.attempted > 0
@@ -154,9 +230,9 @@ def test_every_public_function_tells_its_parameters():
     """As NumPy has them: each parameter stands in the docstring."""
     import inspect
 
-    from morphd import curves, geodesics, grains, operators
+    from morphd import curves, geodesics, grains, operators, watersheds
 
-    for module in (operators, geodesics, grains, curves):
+    for module in (operators, geodesics, grains, curves, watersheds):
         for name in module.__all__:
             function = getattr(module, name)
             if inspect.isfunction(function):

@@ -11,6 +11,7 @@ from hypothesis.extra import numpy as arrays  # noqa: E402
 import plain  # noqa: E402
 
 import morphd  # noqa: E402
+from morphd import _flood  # noqa: E402
 
 SHAPES = arrays.array_shapes(min_dims=2, max_dims=2, max_side=9)
 IMAGES = some.sampled_from([np.bool_, np.uint8, np.uint16]).flatmap(lambda dtype: arrays.arrays(dtype, SHAPES))
@@ -140,3 +141,56 @@ def test_bytes_are_a_picture_or_refused(data):
         assert 20 <= told.number <= 26
     else:
         assert len(picture.samples) == picture.width * picture.height * (1 if picture.maxval < 256 else 2)
+
+
+def floods(draw):
+    """An image with markers, a mask and a connectivity."""
+    image = draw(IMAGES)
+    markers = draw(arrays.arrays(np.int64, image.shape, elements=some.sampled_from([0, 0, 0, 1, 2, 5]), fill=some.just(0)))
+    return image, markers, draw(arrays.arrays(np.bool_, image.shape, fill=some.just(True))), draw(some.sampled_from([1, 2]))
+
+
+FLOODS = some.composite(floods)()
+
+
+@QUICK
+@given(FLOODS, some.sampled_from([0, 2, 48]))
+def test_watersheds_are_those_of_their_rule(flood, few):
+    image, markers, mask, connectivity = flood
+    b = (plain.reference_model.CROSS, plain.reference_model.SQUARE)[connectivity - 1]
+    wanted = plain.reference_model.watershed(b, plain.image(image), markers.ravel().tolist(), mask.ravel().tolist())
+    with pytest.MonkeyPatch.context() as small:
+        small.setattr(_flood, "FEW", few)
+        assert morphd.watershed(image, markers, connectivity, mask=mask).ravel().tolist() == wanted
+
+
+@QUICK
+@given(FLOODS)
+def test_laws_of_watersheds(flood):
+    """Markers keep their labels; a component of the mask is full where it has one, and else empty; basins hang together with them; only
+    the order of levels counts; and a flood from its own result changes nothing."""
+    image, markers, mask, connectivity = flood
+    made = morphd.watershed(image, markers, connectivity, mask=mask)
+    held = np.where(mask, markers, 0)
+    assert np.array_equal(made[held > 0], held[held > 0]) and not made[~mask].any()
+    parts, count = morphd.label(mask, connectivity, return_num=True)
+    for part in range(1, count + 1):
+        assert (made[parts == part] > 0).all() if held[parts == part].any() else not made[parts == part].any()
+    for label in set(made.flat) - {0}:
+        of_label = morphd.label(made == label, connectivity)
+        assert set(of_label[made == label]) == set(of_label[held == label])
+    assert np.array_equal(morphd.watershed(image.astype(np.float64) * 3 - 7, markers, connectivity, mask=mask), made)
+    assert np.array_equal(morphd.watershed(image, made, connectivity, mask=mask), made)
+
+
+@QUICK
+@given(arrays.arrays(np.bool_, SHAPES), some.sampled_from([0, 0.3, 1, 2.5]), some.sampled_from([1, 2]))
+def test_laws_of_split_grains(mask, h, connectivity):
+    """Each pixel of the set has a number, grains are numbered by their first pixels, each lies in one component, and a greater fall joins."""
+    made = morphd.split_grains(mask, h, connectivity)
+    assert np.array_equal(made > 0, mask)
+    assert list(dict.fromkeys(made[made > 0].tolist())) == list(range(1, made.max() + 1))
+    parts = morphd.label(mask, connectivity)
+    assert all(len(set(parts[made == label])) == 1 for label in range(1, made.max() + 1))
+    assert morphd.split_grains(mask, 2 * h + 1, connectivity).max() <= made.max()
+    assert np.array_equal(morphd.split_grains(mask, 10, connectivity), parts)

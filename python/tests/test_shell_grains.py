@@ -138,6 +138,97 @@ def test_a_hole_of_the_ring_is_open_where_it_meets_the_ground_at_a_corner(tmp_pa
         assert [measures(row, "area")[0] for row in rows] == areas
 
 
+# Two squares with a bridge, of which the right one has a hole; what the left edge cuts, with another bridge; a speck.
+HEAP = """
+..............
+.#####.#####..
+.#####.#####..
+.#########.#..
+.#####.#####..
+.#####.#####..
+..............
+###...........
+####...#......
+##############
+..............
+"""
+
+
+@pytest.fixture
+def heap(tmp_path):
+    morphd.write(tmp_path / "heap.pbm", np.array([[sign == "#" for sign in line] for line in HEAP.split()]))
+    return tmp_path
+
+
+@pytest.mark.parametrize("words, areas, told", [
+    ("", [50, 22], "2 grains, 1 of them cut by the frame"),
+    ("--split 1 --fill", [26, 25, 22], "3 grains, 1 of them cut by the frame, 1 heap parted into 2"),
+    ("--split 1.99 --fill", [26, 25, 22], "3 grains, 1 of them cut by the frame, 1 heap parted into 2"),
+    ("--split 2 --fill", [51, 22], "2 grains, 1 of them cut by the frame"),
+    ("--split 1e9", [50, 22], "2 grains, 1 of them cut by the frame"),
+    ("--split 1 --fill --clear-border", [26, 25], "2 grains, 1 cut by the frame and left out, 1 heap parted into 2"),
+    ("--split 1 --fill --min-area 26", [26], "1 grain, 2 too small, 1 heap parted into 2"),
+    ("--split 1 --fill --min-area 23 --clear-border", [26, 25], "2 grains, 1 too small, 1 heap parted into 2"),
+    ("--split 1 --fill --min-area 27", [], "no grains, 3 too small, 1 heap parted into 2"),
+    ("--split 1 --dark --connectivity 4", [67, 1, 14], "3 grains, 2 of them cut by the frame"),
+])
+def test_grains_that_touch(heap, capsys, words, areas, told):
+    assert run(heap, f"grains {words} @heap.pbm --csv @heap.csv") == 0
+    rows = rows_of((heap / "heap.csv").read_text(encoding="utf-8"))
+    assert [measures(row, "area")[0] for row in rows] == areas and [row["label"] for row in rows] == [str(it) for it in range(1, len(areas) + 1)]
+    assert capsys.readouterr().out.splitlines()[0] == told
+
+
+def test_a_hole_parts_a_grain_unless_it_is_filled(heap, capsys):
+    """Pixels are near to it as to other ground: around it the distance falls from the root of 2 to 1, four times."""
+    mask = np.zeros((9, 9), bool)
+    mask[2:7, 2:7] = True
+    mask[4, 4] = False
+    morphd.write(heap / "ring.pbm", mask)
+    for words, told in (("", "4 grains, 1 heap parted into 4"), ("--fill", "1 grain")):
+        assert run(heap, f"grains --split 0.3 {words} @ring.pbm") == 0
+        assert capsys.readouterr().out.splitlines()[0] == told
+
+
+def test_what_the_frame_cuts_of_a_heap_takes_no_other_grain_with_it(tmp_path, capsys):
+    mask = np.array([[sign == "#" for sign in line] for line in HEAP.split()])[:7, 1:]
+    morphd.write(tmp_path / "cut.pbm", mask)
+    assert run(tmp_path, "grains --fill --clear-border @cut.pbm") == 0
+    assert capsys.readouterr().out.splitlines()[0] == "no grains, 1 cut by the frame and left out"
+    assert run(tmp_path, "grains --fill --clear-border --split 1 --pixel 2um @cut.pbm --csv @cut.csv --overlay @cut.png") == 0
+    assert capsys.readouterr().out.splitlines()[0] == "1 grain, 1 cut by the frame and left out, 1 heap parted into 2"
+    (row,) = rows_of((tmp_path / "cut.csv").read_text(encoding="utf-8"))
+    assert measures(row, "area in µm²", "x", "left", "right", "feret_max in µm") == pytest.approx([25 * 4, 6, 6, 10, 2 * math.sqrt(50)])
+
+
+def test_outlines_of_grains_that_touch(heap):
+    """Each has its own, on both sides of the neck."""
+    images = pytest.importorskip("PIL.Image")
+    assert run(heap, "grains --split 1 --fill @heap.pbm --overlay @heap.png") == 0
+    drawn = np.asarray(images.open(heap / "heap.png"))
+    scale = drawn.shape[1] // 14
+    is_orange = (drawn == _overlays.ORANGE).all(axis=2)
+    # the sides of the neck that face one another: its last column, and the first one of the square
+    for column in (7 * scale - 1, 7 * scale):
+        assert is_orange[3 * scale : 4 * scale, column].all()
+    assert run(heap, "grains --fill @heap.pbm --overlay @whole.png") == 0
+    whole = (np.asarray(images.open(heap / "whole.png")) == _overlays.ORANGE).all(axis=2)
+    assert not whole[3 * scale + scale // 2, 7 * scale - 1 : 7 * scale + 1].any()
+
+
+def test_heaps_of_several_files(heap, capsys):
+    morphd.write(heap / "other.pbm", np.array([[sign == "#" for sign in line] for line in HEAP.split()])[:6])
+    assert run(heap, "grains --split 1 --fill @heap.pbm @other.pbm") == 0
+    assert "5 grains, 3 of them cut by the frame, 2 heaps parted into 4" in capsys.readouterr().out
+
+
+@pytest.mark.parametrize("fall", ["-1", "nan", "inf", "1px"])
+def test_falls_that_are_no_numbers(heap, capsys, fall):
+    with pytest.raises(SystemExit) as told:
+        run(heap, f"grains --split={fall} @heap.pbm")
+    assert told.value.code == 2 and "--split" in capsys.readouterr().err
+
+
 def test_several_files(folder, capsys):
     assert run(folder, "grains --at 100 --clear-border --jobs 2 @grains.pgm @blank.pgm --csv @all.csv --overlay @drawn/") == 0
     told = capsys.readouterr()

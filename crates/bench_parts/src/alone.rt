@@ -8,7 +8,7 @@ use crate::jobs::{Job, element_name, image_name, made_name};
 use crate::side::Side;
 use mw_core::{Core, Finish, Started};
 use mw_element::Element;
-use mw_model::{Code, NoMemory, Reply};
+use mw_model::{Code, Name, NoMemory, Reply};
 use mw_netpbm::read_owned;
 use mw_pixel::Image;
 use std::alloc::Global;
@@ -48,11 +48,19 @@ pub(crate) fn accepted(reply: Reply) -> Result<(), Fault> {
     }
 }
 
-fn load(alloc: Global, core: &mut Core, job: Job) -> Result<(), Fault> {
-    let image = image(alloc, job.file(alloc)?);
+fn load(alloc: Global, core: &mut Core, name: Name, file: Vec<u8>) -> Result<(), Fault> {
+    accepted(core.load(name, image(alloc, file))?)
+}
+
+fn define(alloc: Global, core: &mut Core, name: Name, job: Job) -> Result<(), Fault> {
     let element = element(alloc, &job.bitmap(alloc)?, job.origin());
-    accepted(core.load(image_name()?, image)?)?;
-    accepted(core.element(element_name()?, element)?)
+    accepted(core.element(name, element)?)
+}
+
+fn lay_out(alloc: Global, core: &mut Core, job: Job) -> Result<(), Fault> {
+    let (f, b) = (image_name()?, element_name()?);
+    load(alloc, core, f, job.file(alloc)?)?;
+    define(alloc, core, b, job)
 }
 
 fn submit(core: &mut Core, job: Job) -> Result<(), Fault> {
@@ -109,7 +117,7 @@ fn load_and_work_off<R: Clock>(
     core: &mut Core,
     job: Job,
 ) -> Result<SoloTimes, Fault> {
-    load(alloc, core, job)?;
+    lay_out(alloc, core, job)?;
     work_off(rt, alloc, core, job)
 }
 

@@ -34,21 +34,35 @@ fn calls<R: Wait, J: Naming>(
     Ok(())
 }
 
+/// The time of the audit, behind the calls.
 fn audited<R: Wait + Clock, J: Naming>(
     rt: &R,
-    alloc: Global,
     board: &Board<J>,
+    passes: &mut [Pass],
 ) -> Result<Duration, Fault> {
+    calls(rt, board, passes, image_name()?)?;
+    let start = Instant::now(rt)?;
+    if !board.audit_all(rt, passes) {
+        return Err(Fault::Answer);
+    }
+    Ok(start.elapsed(rt)?)
+}
+
+fn passes_of<J: Naming>(alloc: Global, board: &Board<J>) -> Result<Vec<Pass>, Fault> {
     let mut passes = Vec::with_capacity(alloc, PASSES as usize)?;
     for _ in 0..PASSES {
         passes.push(board.pass())?;
     }
-    calls(rt, board, &mut passes, image_name()?)?;
-    let start = Instant::now(rt)?;
-    if !board.audit_all(rt, &passes) {
-        return Err(Fault::Answer);
-    }
-    Ok(start.elapsed(rt)?)
+    Ok(passes)
+}
+
+fn with_passes<R: Wait + Clock, J: Naming>(
+    rt: &R,
+    alloc: Global,
+    board: &Board<J>,
+) -> Result<Duration, Fault> {
+    let mut passes = passes_of(alloc, board)?;
+    audited(rt, board, &mut passes)
 }
 
 fn on_board<J: Naming, R: Wait + Clock>(
@@ -59,7 +73,7 @@ fn on_board<J: Naming, R: Wait + Clock>(
     requires { roll ≡ J.book }
 {
     match new_board::<J>(alloc, Side::Short, roll) {
-        Ok(board) => audited(rt, alloc, &board),
+        Ok(board) => with_passes(rt, alloc, &board),
         Err(NoMemory) => Err(Fault::Memory),
     }
 }

@@ -73,9 +73,31 @@ fn load<R: Wait, J: Naming>(
     pass: &mut Pass,
     job: Job,
 ) -> Result<(), Fault> {
-    let (file, bitmap) = (job.file(alloc)?, job.bitmap(alloc)?);
-    accepted(board.load(rt, pass, image_name()?, file)?)?;
-    accepted(board.element(rt, pass, element_name()?, job.origin(), &bitmap)?)
+    let name = image_name()?;
+    accepted(board.load(rt, pass, name, job.file(alloc)?)?)
+}
+
+fn define<R: Wait, J: Naming>(
+    rt: &R,
+    alloc: Global,
+    board: &Board<J>,
+    pass: &mut Pass,
+    job: Job,
+) -> Result<(), Fault> {
+    let name = element_name()?;
+    accepted(board.element(rt, pass, name, job.origin(), &job.bitmap(alloc)?)?)
+}
+
+fn submit<R: Wait, J: Naming>(
+    rt: &R,
+    board: &Board<J>,
+    pass: &mut Pass,
+    job: Job,
+) -> Result<(), Fault> {
+    for command in 0..job.commands() {
+        accepted(board.run(rt, pass, made_name(command)?, job.op()?)?)?;
+    }
+    Ok(())
 }
 
 /// Submits the commands and waits for all of them.
@@ -85,9 +107,7 @@ fn submit_and_wait<R: Wait, J: Naming>(
     pass: &mut Pass,
     job: Job,
 ) -> Result<(), Fault> {
-    for command in 0..job.commands() {
-        accepted(board.run(rt, pass, made_name(command)?, job.op()?)?)?;
-    }
+    submit(rt, board, pass, job)?;
     for command in 0..job.commands() {
         match board.wait(rt, pass, made_name(command)?)? {
             Reply::Done(_, _) => (),
@@ -128,25 +148,36 @@ fn with_workers<R: Threads + Wait + Clock + Sync, J: Naming + Send + Sync>(
 }
 
 /// The clock is the runtime once more: the check of borrows wants a second reference to it.
-fn load_and_work_off<R: Threads + Wait + Clock + Sync, J: Naming + Send + Sync>(
+fn work_off<R: Threads + Wait + Clock + Sync, J: Naming + Send + Sync>(
     rt: &R,
     clock: &R,
     alloc: Global,
     board: &Board<J>,
+    pass: &mut Pass,
     shift: Shift,
 ) -> Result<CrewTimes, Fault> {
-    let mut pass = board.pass();
-    load(rt, alloc, board, &mut pass, shift.job)?;
     let gate = Timed {
         rt: clock,
         alloc,
         nanoseconds: AtomicU64::new(0),
     };
-    let all = with_workers(rt, board, &gate, &mut pass, shift)?;
+    let all = with_workers(rt, board, &gate, pass, shift)?;
     Ok(CrewTimes {
         all,
         computing: gate.total(),
     })
+}
+
+fn lay_out_and_work_off<R: Threads + Wait + Clock + Sync, J: Naming + Send + Sync>(
+    rt: &R,
+    alloc: Global,
+    board: &Board<J>,
+    pass: &mut Pass,
+    shift: Shift,
+) -> Result<CrewTimes, Fault> {
+    load(rt, alloc, board, pass, shift.job)?;
+    define(rt, alloc, board, pass, shift.job)?;
+    work_off(rt, rt, alloc, board, pass, shift)
 }
 
 /// A board over a new core with tiles of this side.
@@ -173,7 +204,7 @@ fn on_board<J: Naming + Send + Sync, R: Threads + Wait + Clock + Sync>(
     requires { roll ≡ J.book }
 {
     match new_board::<J>(alloc, side, roll) {
-        Ok(board) => load_and_work_off(rt, rt, alloc, &board, shift),
+        Ok(board) => lay_out_and_work_off(rt, alloc, &board, &mut board.pass(), shift),
         Err(NoMemory) => Err(Fault::Memory),
     }
 }

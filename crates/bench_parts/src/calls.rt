@@ -98,24 +98,34 @@ fn name(letter: u8, n: u32) -> Result<Name, Fault> {
     Name::parse(&text).ok_or(Fault::Answer)
 }
 
-/// Reads and loads images of one pixel.
+/// Reads and loads an image of one pixel.
+fn load(alloc: Global, core: &mut Core, name: Name) -> Result<(), Fault> {
+    let image = match read(alloc, b"P4\n1 1\n\x80") {
+        Ok(image) => Ok(image),
+        Err(fault) => Err(fault.code()),
+    };
+    accepted(core.load(name, image)?)
+}
+
 fn load_all(alloc: Global, core: &mut Core, count: u32) -> Result<(), Fault> {
     for i in 0..count {
-        let image = match read(alloc, b"P4\n1 1\n\x80") {
-            Ok(image) => Ok(image),
-            Err(fault) => Err(fault.code()),
-        };
-        accepted(core.load(name(b'f', i)?, image)?)?;
+        load(alloc, core, name(b'f', i)?)?;
     }
     Ok(())
 }
 
-fn define(alloc: Global, core: &mut Core) -> Result<(), Fault> {
+fn define(alloc: Global, core: &mut Core, name: Name) -> Result<(), Fault> {
     let element = match Element::parse(alloc, b"P1\n1 1\n1\n", 0, 0) {
         Ok(element) => Ok(element),
         Err(fault) => Err(fault.code()),
     };
-    accepted(core.element(name(b'b', 0)?, element)?)
+    accepted(core.element(name, element)?)
+}
+
+/// Loads images and an element.
+fn lay_out(alloc: Global, core: &mut Core, images: u32) -> Result<(), Fault> {
+    load_all(alloc, core, images)?;
+    define(alloc, core, name(b'b', 0)?)
 }
 
 fn erode(core: &mut Core, made: Name, image: Name) -> Result<(), Fault> {
@@ -125,8 +135,7 @@ fn erode(core: &mut Core, made: Name, image: Name) -> Result<(), Fault> {
 /// Images and an element.
 fn loaded(alloc: Global, images: u32) -> Result<Core, Fault> {
     let mut core = Core::new(alloc, 128)?;
-    load_all(alloc, &mut core, images)?;
-    define(alloc, &mut core)?;
+    lay_out(alloc, &mut core, images)?;
     Ok(core)
 }
 
@@ -144,13 +153,25 @@ fn filled(alloc: Global, size: Size) -> Result<Core, Fault> {
     Ok(core)
 }
 
-/// A full table in which each command but the first waits for the one before it.
+/// The same where the images of the last commands were let go.
+fn spent(alloc: Global, size: Size) -> Result<Core, Fault> {
+    let mut core = filled(alloc, size)?;
+    release_last(&mut core, size)?;
+    Ok(core)
+}
+
+/// Fills a table with commands of which each but the first waits for the one before it.
+fn chain_up(core: &mut Core) -> Result<(), Fault> {
+    erode(core, name(b'e', 0)?, name(b'f', 0)?)?;
+    for i in 3..ENTRIES {
+        erode(core, name(b'e', i - 2)?, name(b'e', i - 3)?)?;
+    }
+    Ok(())
+}
+
 fn chain(alloc: Global) -> Result<Core, Fault> {
     let mut core = loaded(alloc, 1)?;
-    erode(&mut core, name(b'e', 0)?, name(b'f', 0)?)?;
-    for i in 3..ENTRIES {
-        erode(&mut core, name(b'e', i - 2)?, name(b'e', i - 3)?)?;
-    }
+    chain_up(&mut core)?;
     Ok(core)
 }
 
@@ -179,14 +200,34 @@ fn release_last(core: &mut Core, size: Size) -> Result<(), Fault> {
     Ok(())
 }
 
+/// Takes the ready task of a place.
+fn take(core: &mut Core, place: u64) -> Result<Work, Fault> {
+    match core.start(place) {
+        Started::Work(work) => Ok(work),
+        _ => Err(Fault::Answer),
+    }
+}
+
+fn compute(alloc: Global, work: Work) -> Result<TileDone, Fault> {
+    match run(alloc, work) {
+        Ok(done) => Ok(done),
+        Err(_) => Err(Fault::Memory),
+    }
+}
+
+/// Brings the only result of a command.
+fn bring(core: &mut Core, done: TileDone) -> Result<(), Fault> {
+    match core.finish(done) {
+        Finish::Settled(_) => Ok(()),
+        _ => Err(Fault::Answer),
+    }
+}
+
 /// Takes the last ready task again and again.
 fn start_last(alloc: Global, core: &mut Core, size: Size) -> Result<Vec<Work>, Fault> {
     let mut taken = Vec::with_capacity(alloc, size.calls as usize)?;
     for i in 0..size.calls {
-        match core.start(u64::from(size.images - 2 - i)) {
-            Started::Work(work) => taken.push(work)?,
-            _ => return Err(Fault::Answer),
-        }
+        taken.push(take(core, u64::from(size.images - 2 - i))?)?;
     }
     Ok(taken)
 }
@@ -194,20 +235,14 @@ fn start_last(alloc: Global, core: &mut Core, size: Size) -> Result<Vec<Work>, F
 fn computed(alloc: Global, taken: Vec<Work>) -> Result<Vec<TileDone>, Fault> {
     let mut results = Vec::with_capacity(alloc, taken.len())?;
     for work in taken {
-        match run(alloc, work) {
-            Ok(done) => results.push(done)?,
-            Err(_) => return Err(Fault::Memory),
-        }
+        results.push(compute(alloc, work)?)?;
     }
     Ok(results)
 }
 
 fn finish_all(core: &mut Core, results: Vec<TileDone>) -> Result<(), Fault> {
     for done in results {
-        match core.finish(done) {
-            Finish::Settled(_) => (),
-            _ => return Err(Fault::Answer),
-        }
+        bring(core, done)?;
     }
     Ok(())
 }
@@ -234,11 +269,7 @@ fn prepared(alloc: Global, row: Row, size: Size) -> Result<Core, Fault> {
         Row::Run => loaded(alloc, size.images),
         Row::Cascade => chain(alloc),
         Row::ReleaseSpent => loaded(alloc, size.images * 2 - 1),
-        Row::FinishDrops => {
-            let mut core = filled(alloc, size)?;
-            release_last(&mut core, size)?;
-            Ok(core)
-        }
+        Row::FinishDrops => spent(alloc, size),
         _ => filled(alloc, size),
     }
 }
@@ -253,8 +284,7 @@ fn results(alloc: Global, core: &mut Core, row: Row, size: Size) -> Result<Vec<T
 
 /// Images are loaded, each is eroded, all of that is worked off, and the last one made is fetched.
 fn session(alloc: Global, core: &mut Core) -> Result<(), Fault> {
-    load_all(alloc, core, PAIRS)?;
-    define(alloc, core)?;
+    lay_out(alloc, core, PAIRS)?;
     run_all(core, PAIRS)?;
     for _ in 0..PAIRS {
         work_one(alloc, core)?;
@@ -264,36 +294,49 @@ fn session(alloc: Global, core: &mut Core) -> Result<(), Fault> {
 }
 
 fn work_one(alloc: Global, core: &mut Core) -> Result<(), Fault> {
-    let Started::Work(work) = core.start(0) else {
-        return Err(Fault::Answer);
-    };
-    let Ok(done) = run(alloc, work) else {
-        return Err(Fault::Memory);
-    };
-    match core.finish(done) {
-        Finish::Settled(_) => Ok(()),
-        _ => Err(Fault::Answer),
+    let work = take(core, 0)?;
+    let done = compute(alloc, work)?;
+    bring(core, done)
+}
+
+/// A full square of the skeleton's side.
+fn full(alloc: Global, skeleton: Skeleton) -> Result<Vec<u8>, Fault> {
+    let mut bytes = skeleton.head.to_vec(alloc)?;
+    for _ in 0..u64::from(skeleton.side) * u64::from(skeleton.side) / 8 {
+        bytes.push(0xff)?;
     }
+    Ok(bytes)
+}
+
+/// Loads the full square.
+fn load_square(alloc: Global, core: &mut Core, name: Name, bytes: &[u8]) -> Result<(), Fault> {
+    match read(alloc, bytes) {
+        Ok(image) => accepted(core.load(name, Ok(image))?),
+        Err(_) => Err(Fault::Memory),
+    }
+}
+
+/// Defines the square of three.
+fn define_square(alloc: Global, core: &mut Core, name: Name) -> Result<(), Fault> {
+    match Element::parse(alloc, b"P1\n3 3\n111\n111\n111\n", 1, 1) {
+        Ok(square) => accepted(core.element(name, Ok(square))?),
+        Err(_) => Err(Fault::Memory),
+    }
+}
+
+/// Asks for the skeleton.
+fn ask(alloc: Global, core: &mut Core, skeleton: Skeleton) -> Result<(), Fault> {
+    let (f, b) = (name(b'f', 0)?, name(b'b', 0)?);
+    load_square(alloc, core, f, &full(alloc, skeleton)?)?;
+    define_square(alloc, core, b)?;
+    let op = Op::Gran(GranOp::Skeleton(f, b, skeleton.levels));
+    accepted(core.run(name(b's', 0)?, op)?)
 }
 
 /// A core of tiles of 64 pixels, on which the skeleton is to be made.
 fn with_skeleton(alloc: Global, skeleton: Skeleton) -> Result<Core, Fault> {
     let mut core = Core::new(alloc, 64)?;
-    let mut bytes = skeleton.head.to_vec(alloc)?;
-    for _ in 0..u64::from(skeleton.side) * u64::from(skeleton.side) / 8 {
-        bytes.push(0xff)?;
-    }
-    let (Ok(image), Ok(square)) = (
-        read(alloc, &bytes),
-        Element::parse(alloc, b"P1\n3 3\n111\n111\n111\n", 1, 1),
-    ) else {
-        return Err(Fault::Memory);
-    };
-    let (f, b) = (name(b'f', 0)?, name(b'b', 0)?);
-    accepted(core.load(f, Ok(image))?)?;
-    accepted(core.element(b, Ok(square))?)?;
-    let op = Op::Gran(GranOp::Skeleton(f, b, skeleton.levels));
-    accepted(core.run(name(b's', 0)?, op)?)?;
+    ask(alloc, &mut core, skeleton)?;
     Ok(core)
 }
 
@@ -320,16 +363,11 @@ fn one_task<R: Clock>(
 }
 
 /// Works the skeleton off: the time that the core took, and how many tasks there were.
-fn all_tasks<R: Clock>(
-    rt: &R,
-    alloc: Global,
-    skeleton: Skeleton,
-) -> Result<(Duration, u32), Fault> {
-    let mut core = with_skeleton(alloc, skeleton)?;
+fn work_off<R: Clock>(rt: &R, alloc: Global, core: &mut Core) -> Result<(Duration, u32), Fault> {
     let (mut total, mut count) = (Duration::ZERO, 0u32);
     // No command has more tasks.
     for place in 0..4194304u64 {
-        match one_task(rt, alloc, &mut core, place)? {
+        match one_task(rt, alloc, core, place)? {
             Some(time) => total = total.saturating_add(time),
             None => break,
         }
@@ -339,6 +377,15 @@ fn all_tasks<R: Clock>(
         None => Ok((total, count)),
         Some(_) => Err(Fault::Answer),
     }
+}
+
+fn all_tasks<R: Clock>(
+    rt: &R,
+    alloc: Global,
+    skeleton: Skeleton,
+) -> Result<(Duration, u32), Fault> {
+    let mut core = with_skeleton(alloc, skeleton)?;
+    work_off(rt, alloc, &mut core)
 }
 
 fn play(
@@ -363,14 +410,30 @@ fn play(
     }
 }
 
+/// The time of the row on a core.
+fn played<R: Clock>(
+    rt: &R,
+    alloc: Global,
+    core: &mut Core,
+    row: Row,
+    size: Size,
+) -> Result<Duration, Fault> {
+    let results = results(alloc, core, row, size)?;
+    let start = Instant::now(rt)?;
+    play(alloc, core, row, size, results)?;
+    Ok(start.elapsed(rt)?)
+}
+
+/// The time of the row on a core of its own.
+fn time_once<R: Clock>(rt: &R, alloc: Global, row: Row, size: Size) -> Result<Duration, Fault> {
+    let mut core = prepared(alloc, row, size)?;
+    played(rt, alloc, &mut core, row, size)
+}
+
 fn time<R: Clock>(rt: &R, alloc: Global, row: Row, size: Size) -> Result<Duration, Fault> {
     let mut total = Duration::ZERO;
     for _ in 0..size.cores {
-        let mut core = prepared(alloc, row, size)?;
-        let results = results(alloc, &mut core, row, size)?;
-        let start = Instant::now(rt)?;
-        play(alloc, &mut core, row, size, results)?;
-        total = total.saturating_add(start.elapsed(rt)?);
+        total = total.saturating_add(time_once(rt, alloc, row, size)?);
     }
     Ok(total)
 }

@@ -3,10 +3,12 @@
 //! Each line has the best of five runs, how often a copy of the file's bytes and one of the unpacked samples fit into it, and the
 //! time for a sample.
 
-ghost use Rattle.std.specs.Prelude.{◌≡◌, ◌*◌, length, vec_len, IfOk};
+ghost use Rattle.std.specs.Prelude.{◌≡◌, ◌*◌, length};
 
 use crate::fault::Fault;
+use crate::noise::Noise;
 use mw_netpbm::{read, read_owned, write};
+use mw_pixel::Image;
 use std::alloc::Global;
 use std::rt::Clock;
 use std::time::Instant;
@@ -16,14 +18,11 @@ const SAMPLES: usize = 4096 * 4096;
 const ROUNDS: u32 = 5;
 
 /// Bytes without a pattern.
-fn noise(alloc: Global, count: usize) -> Result<Vec<u8>, Fault>
-    ensures { IfOk result (λ v. vec_len v ≡ count) }
-{
+fn noise(alloc: Global, count: usize) -> Result<Vec<u8>, Fault> {
+    let mut noise = Noise::new();
     let mut bytes = Vec::with_capacity(alloc, count)?;
-    let mut state = 1u32;
-    for i in 0..count {
-        state = state.wrapping_mul(1664525).wrapping_add(1013904223);
-        bytes.push((state >> 24) as u8)?;
+    for _ in 0..count {
+        bytes.push((noise.next() >> 24) as u8)?;
     }
     Ok(bytes)
 }
@@ -96,57 +95,84 @@ fn micros<R: Clock>(rt: &R, start: Instant) -> Result<u64, Fault> {
     Ok(u64::try_from(start.elapsed(rt)?.as_micros()).unwrap_or(u64::MAX))
 }
 
+/// The microseconds of a copy, once.
+fn copying<R: Clock>(rt: &R, alloc: Global, bytes: &[u8]) -> Result<u64, Fault> {
+    let start = Instant::now(rt)?;
+    let copied = Vec::from_slice(alloc, bytes)?;
+    let taken = micros(rt, start)?;
+    if copied.last() == bytes.last() {
+        Ok(taken)
+    } else {
+        Err(Fault::File)
+    }
+}
+
 fn time_copy<R: Clock>(rt: &R, alloc: Global, bytes: &[u8]) -> Result<u64, Fault> {
     let mut best = u64::MAX;
     for _ in 0..ROUNDS {
-        let start = Instant::now(rt)?;
-        let copied = Vec::from_slice(alloc, bytes)?;
-        best = best.min(micros(rt, start)?);
-        if copied.last() != bytes.last() {
-            return Err(Fault::File);
-        }
+        best = best.min(copying(rt, alloc, bytes)?);
     }
     Ok(best)
+}
+
+/// The microseconds of reading a file, once.
+fn reading<R: Clock>(rt: &R, alloc: Global, file: &[u8]) -> Result<u64, Fault> {
+    let start = Instant::now(rt)?;
+    let image = read(alloc, file)?;
+    let taken = micros(rt, start)?;
+    if image.width() == 4096 {
+        Ok(taken)
+    } else {
+        Err(Fault::File)
+    }
 }
 
 fn time_read<R: Clock>(rt: &R, alloc: Global, file: &[u8]) -> Result<u64, Fault> {
     let mut best = u64::MAX;
     for _ in 0..ROUNDS {
-        let start = Instant::now(rt)?;
-        let image = read(alloc, file)?;
-        best = best.min(micros(rt, start)?);
-        if image.width() != 4096 {
-            return Err(Fault::File);
-        }
+        best = best.min(reading(rt, alloc, file)?);
     }
     Ok(best)
+}
+
+/// The microseconds of reading bytes that are handed over, once.
+fn taking<R: Clock>(rt: &R, alloc: Global, owned: Vec<u8>) -> Result<u64, Fault> {
+    let start = Instant::now(rt)?;
+    let image = read_owned(alloc, owned)?;
+    let taken = micros(rt, start)?;
+    if image.width() == 4096 {
+        Ok(taken)
+    } else {
+        Err(Fault::File)
+    }
 }
 
 /// The time for bytes that are handed over. The copies that are handed over are not counted.
 fn time_read_owned<R: Clock>(rt: &R, alloc: Global, file: &[u8]) -> Result<u64, Fault> {
     let mut best = u64::MAX;
     for _ in 0..ROUNDS {
-        let owned = Vec::from_slice(alloc, file)?;
-        let start = Instant::now(rt)?;
-        let image = read_owned(alloc, owned)?;
-        best = best.min(micros(rt, start)?);
-        if image.width() != 4096 {
-            return Err(Fault::File);
-        }
+        best = best.min(taking(rt, alloc, Vec::from_slice(alloc, file)?)?);
     }
     Ok(best)
+}
+
+/// The microseconds of writing an image, once, as a file of so many bytes.
+fn writing<R: Clock>(rt: &R, alloc: Global, image: &Image, length: usize) -> Result<u64, Fault> {
+    let start = Instant::now(rt)?;
+    let written = write(alloc, image)?;
+    let taken = micros(rt, start)?;
+    if written.len() == length {
+        Ok(taken)
+    } else {
+        Err(Fault::File)
+    }
 }
 
 fn time_write<R: Clock>(rt: &R, alloc: Global, file: &[u8]) -> Result<u64, Fault> {
     let image = read(alloc, file)?;
     let mut best = u64::MAX;
     for _ in 0..ROUNDS {
-        let start = Instant::now(rt)?;
-        let written = write(alloc, &image)?;
-        best = best.min(micros(rt, start)?);
-        if written.len() != file.len() {
-            return Err(Fault::File);
-        }
+        best = best.min(writing(rt, alloc, &image, file.len())?);
     }
     Ok(best)
 }
@@ -205,23 +231,47 @@ fn show_raw<R: Clock + Print>(
     Ok(copies)
 }
 
+/// Reads and writes a raw file of this head and raster.
+fn show_raster<R: Clock + Print>(
+    rt: &R,
+    alloc: Global,
+    head: &str,
+    raster: &[u8],
+    names: (&str, &str),
+    samples: &[u8],
+) -> Result<Copies, Fault> {
+    let file = raw_file(alloc, head, raster)?;
+    show_raw(rt, alloc, names, &file, samples)
+}
+
+/// Reads the bytes of a raw file that are handed over.
+fn show_owned<R: Clock + Print>(
+    rt: &R,
+    alloc: Global,
+    raster: &[u8],
+    copies: Copies,
+) -> Result<(), Fault> {
+    let file = raw_file(alloc, BYTES, raster)?;
+    let owned = time_read_owned(rt, alloc, &file)?;
+    print_line(rt, "raw 8 bits, owned", owned, copies)
+}
+
+/// The head of a file of samples of one byte.
+const BYTES: &str = "P5\n4096 4096\n255\n";
+
 /// Raw files of these bytes: all of them as samples of two bytes, half of them as samples of one.
 fn measure_raw<R: Clock + Print>(rt: &R, alloc: Global, words: &[u8]) -> Result<(), Fault>
     requires { length words.now ≡ 2 * 16777216 }
 {
     let (bytes, _) = words.split_at(SAMPLES);
-    let file = raw_file(alloc, "P5\n4096 4096\n255\n", bytes)?;
     let names = ("raw 8 bits, read", "raw 8 bits, write");
-    let copies = show_raw(rt, alloc, names, &file, bytes)?;
-    let owned = time_read_owned(rt, alloc, &file)?;
-    print_line(rt, "raw 8 bits, owned", owned, copies)?;
-    let file = raw_file(alloc, "P5\n4096 4096\n65535\n", words)?;
+    let copies = show_raster(rt, alloc, BYTES, bytes, names, bytes)?;
+    show_owned(rt, alloc, bytes, copies)?;
     let names = ("raw 16 bits, read", "raw 16 bits, write");
-    show_raw(rt, alloc, names, &file, words)?;
+    show_raster(rt, alloc, "P5\n4096 4096\n65535\n", words, names, words)?;
     let (packed, _) = words.split_at(SAMPLES / 8);
-    let file = raw_file(alloc, "P4\n4096 4096\n", packed)?;
     let names = ("packed bits, read", "packed bits, write");
-    show_raw(rt, alloc, names, &file, bytes)?;
+    show_raster(rt, alloc, "P4\n4096 4096\n", packed, names, bytes)?;
     Ok(())
 }
 
@@ -230,21 +280,44 @@ fn measure_plain<R: Clock + Print>(rt: &R, alloc: Global, words: &[u8]) -> Resul
     requires { length words.now ≡ 2 * 16777216 }
 {
     let (bytes, _) = words.split_at(SAMPLES);
-    let file = plain_set(alloc, bytes)?;
-    show_read(rt, alloc, "plain bits, read", &file, bytes)?;
-    let file = plain_grey8(alloc, bytes)?;
-    show_read(rt, alloc, "plain 8 bits, read", &file, bytes)?;
-    let file = plain_grey16(alloc, words)?;
-    show_read(rt, alloc, "plain 16 bits, read", &file, words)?;
+    show_read(
+        rt,
+        alloc,
+        "plain bits, read",
+        &plain_set(alloc, bytes)?,
+        bytes,
+    )?;
+    show_read(
+        rt,
+        alloc,
+        "plain 8 bits, read",
+        &plain_grey8(alloc, bytes)?,
+        bytes,
+    )?;
+    show_read(
+        rt,
+        alloc,
+        "plain 16 bits, read",
+        &plain_grey16(alloc, words)?,
+        words,
+    )?;
     Ok(())
 }
 
-pub(crate) fn time_files<R: Clock + Print>(rt: &R, alloc: Global) -> Result<(), Fault> {
-    let words = noise(alloc, 2 * SAMPLES)?;
+/// Files of these bytes.
+fn measure<R: Clock + Print>(rt: &R, alloc: Global, words: &[u8]) -> Result<(), Fault> {
+    if words.len() != 2 * SAMPLES {
+        return Err(Fault::Memory);
+    }
     println!(rt;
         "| {:<19} | {:>6} | {:>7} | {:>7} | {:>5} |",
         "4096 x 4096", "ms", "file", "samples", "ns"
     )?;
-    measure_raw(rt, alloc, &words)?;
-    measure_plain(rt, alloc, &words)
+    measure_raw(rt, alloc, words)?;
+    measure_plain(rt, alloc, words)
+}
+
+pub(crate) fn time_files<R: Clock + Print>(rt: &R, alloc: Global) -> Result<(), Fault> {
+    let words = noise(alloc, 2 * SAMPLES)?;
+    measure(rt, alloc, &words)
 }

@@ -1,6 +1,7 @@
 //! What is worked off: commands on one image of 4096 x 4096 samples.
 
 use crate::fault::Fault;
+use crate::noise::Noise;
 use mw_model::{FlatOp, GranOp, Name, NoMemory, Op};
 use std::alloc::Global;
 
@@ -82,11 +83,10 @@ pub(crate) fn made_name(command: u32) -> Result<Name, Fault> {
 
 /// Samples without a pattern.
 fn noise(alloc: Global) -> Result<Vec<u8>, NoMemory> {
+    let mut noise = Noise::new();
     let mut bytes = b"P5\n4096 4096\n255\n".to_vec(alloc)?;
-    let mut state = 1u32;
     for _ in 0..16_777_216u32 {
-        state = state.wrapping_mul(1664525).wrapping_add(1013904223);
-        bytes.push((state >> 24) as u8)?;
+        bytes.push((noise.next() >> 24) as u8)?;
     }
     Ok(bytes)
 }

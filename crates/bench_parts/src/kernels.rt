@@ -2,10 +2,10 @@
 //! as a command runs that is one task, with the result as a plane of its own; and tile by tile, where each tile is cut
 //! with its halo, computed and pasted. Each figure is the best of five runs, or of as many as begin within two seconds.
 
-ghost use Rattle.std.specs.Prelude.{◌≡◌, ◌*◌, ◌≤◌, ◌%◌, vec_len, IfOk};
-
 use crate::fault::Fault;
 use crate::lines::time_lines;
+use crate::noise::Noise;
+use crate::tiles::{cut_tile, paste_tile};
 use crate::words::time_sets;
 use mw_grid::{Grid, side_ok};
 use mw_line::rectangle;
@@ -14,12 +14,16 @@ use mw_offset::extremum;
 use mw_pixel::{Extremum, Grey, Max, Min, Plane};
 use mw_rank::rank;
 use mw_rank_medians::{Vectored, median_of_grey};
-use mw_tile::{Window, paste};
+use mw_tile::Window;
 use std::alloc::Global;
+use std::rt::Clock;
 use std::sync::Arc;
 use std::time::Instant;
 
 pub(crate) const SIDE: u32 = 4096;
+
+/// As many as the frame has.
+pub(crate) const SAMPLES: usize = 16_777_216;
 
 pub(crate) const FRAME: Rect = Rect {
     x: 0,
@@ -30,13 +34,12 @@ pub(crate) const FRAME: Rect = Rect {
 
 /// A square of k by k places round its middle.
 pub(crate) fn square(k: u8) -> OffsetBox {
-    let before = i32::from(k / 2);
-    let after = i32::from(k) - before - 1;
+    let (before, after) = (k / 2, (k - k / 2).saturating_sub(1));
     OffsetBox {
-        x0: -before,
-        x1: after,
-        y0: -before,
-        y1: after,
+        x0: -i32::from(before),
+        x1: i32::from(after),
+        y0: -i32::from(before),
+        y1: i32::from(after),
     }
 }
 
@@ -51,25 +54,37 @@ pub(crate) fn reach(k: u8) -> Reach {
     }
 }
 
+/// The sample of a number without a pattern.
+fn sample<P: Grey>(number: u32) -> P {
+    let level = (number >> 16) as u16;
+    match P::of(level) {
+        Some(sample) => sample,
+        None => P::of(level % 256).unwrap_or(P::TOP),
+    }
+}
+
 /// Samples without a pattern.
-pub(crate) fn noise<P: Grey>(alloc: Global) -> Result<Vec<P>, Fault>
-    ensures { IfOk result (λ v. vec_len v ≡ 4096 * 4096) }
-{
+pub(crate) fn samples<P: Grey>(alloc: Global) -> Result<Vec<P>, Fault> {
+    let mut noise = Noise::new();
     let mut samples = Vec::new(alloc);
-    let mut state = 1u32;
-    for i in 0..SIDE as usize * SIDE as usize {
-        state = state.wrapping_mul(1664525).wrapping_add(1013904223);
-        let level = (state >> 16) as u16;
-        samples.push(P::of(level).unwrap_or(P::of(level % 256).unwrap_or(P::TOP)))?;
+    for _ in 0..SAMPLES {
+        samples.push(sample::<P>(noise.next()))?;
     }
     Ok(samples)
 }
 
+/// A plane of these samples, as many as the frame has.
+pub(crate) fn plane_of<P: Grey>(samples: Vec<P>) -> Result<Plane<P>, Fault> {
+    if samples.len() != SAMPLES {
+        return Err(Fault::Memory);
+    }
+    Ok(Plane::new(SIDE, SIDE, samples))
+}
+
+/// Whether the offset of these columns and rows is in a disc of this radius.
 fn is_in_disc(across: u8, down: u8, radius: u8) -> bool {
-    let x = u32::from(across);
-    let y = u32::from(down);
-    let r = u32::from(radius);
-    x.saturating_mul(x).saturating_add(y.saturating_mul(y)) <= r.saturating_mul(r)
+    let (x, y, r) = (u32::from(across), u32::from(down), u32::from(radius));
+    x.wrapping_mul(x).wrapping_add(y.wrapping_mul(y)) <= r.wrapping_mul(r)
 }
 
 /// The offsets of a disc of k places across.
@@ -191,10 +206,7 @@ impl Case {
         window: &Window<P>,
         offsets: &[Offset],
         tile: Rect,
-    ) -> Result<Plane<P>, Fault>
-        ensures width { IfOk result (λ r. r.width ≡ tile.width) }
-        ensures height { IfOk result (λ r. r.height ≡ tile.height) }
-    {
+    ) -> Result<Plane<P>, Fault> {
         let neutral = E::neutral(P::TOP);
         if offsets.len() > 65535 {
             return Err(Fault::Memory);
@@ -213,62 +225,93 @@ impl Case {
     }
 }
 
+/// An image, and what is made of it tile by tile.
+#[derive(Drop)]
+struct Bench<P: Vectored> {
+    plane: Arc<Plane<P>>,
+    out: Plane<P>,
+}
+
+impl<P: Vectored> Bench<P> {
+    fn new(alloc: Global) -> Result<Bench<P>, Fault> {
+        let out = Plane::<P>::filled(alloc, SIDE, SIDE, P::TOP)?;
+        let plane = Arc::new(alloc, plane_of(samples::<P>(alloc)?)?)?;
+        Ok(Bench { plane, out })
+    }
+}
+
 /// One pass over the whole image.
 fn whole<P: Vectored, E: Extremum<P>>(
     alloc: Global,
-    plane: &Arc<Plane<P>>,
+    bench: &Bench<P>,
     case: Case,
+    offsets: &[Offset],
 ) -> Result<(), Fault> {
-    let offsets = case.offsets(alloc)?;
-    let window = Window::sharing(Arc::try_clone(plane)?);
-    let _made = case.run::<P, E>(alloc, &window, offsets.as_slice(), FRAME)?;
+    let window = Window::sharing(Arc::try_clone(&bench.plane)?);
+    let _made = case.run::<P, E>(alloc, &window, offsets, FRAME)?;
     Ok(())
+}
+
+/// One tile: it is cut with its halo, computed and pasted.
+fn tile<P: Vectored, E: Extremum<P>>(
+    alloc: Global,
+    bench: &mut Bench<P>,
+    case: Case,
+    offsets: &[Offset],
+    grid: Grid,
+    i: u32,
+) -> Result<(), Fault> {
+    let (place, window) = cut_tile(alloc, &bench.plane, grid, i, reach(case.k))?;
+    let made = case.run::<P, E>(alloc, &window, offsets, place)?;
+    paste_tile(&mut bench.out, place, &made)
 }
 
 /// One pass over all tiles.
 fn tiled<P: Vectored, E: Extremum<P>>(
     alloc: Global,
-    plane: &Plane<P>,
+    bench: &mut Bench<P>,
     case: Case,
+    offsets: &[Offset],
     grid: Grid,
-    out: &mut Plane<P>,
 ) -> Result<(), Fault> {
-    let offsets = case.offsets(alloc)?;
-    if plane.width() != grid.width() || plane.height() != grid.height() {
-        return Ok(());
-    }
-    if out.width() != grid.width() || out.height() != grid.height() {
-        return Ok(());
-    }
     for i in 0..grid.len() {
-        let tile = grid.rect(i);
-        let window = Window::cut(alloc, plane, grid.window(i, reach(case.k)))?;
-        let made = case.run::<P, E>(alloc, &window, offsets.as_slice(), tile)?;
-        paste(out, tile, &made);
+        tile::<P, E>(alloc, bench, case, offsets, grid, i)?;
     }
     Ok(())
 }
 
-/// The microseconds of a case on the whole image, or on tiles where a side is given.
-fn time<R: std::rt::Clock, P: Vectored, E: Extremum<P>>(
+/// One pass over the whole image, or over tiles where a side is given.
+fn pass<P: Vectored, E: Extremum<P>>(
+    alloc: Global,
+    bench: &mut Bench<P>,
+    case: Case,
+    offsets: &[Offset],
+    side: Option<u32>,
+) -> Result<(), Fault> {
+    match side {
+        Some(side) if side_ok(side) => {
+            let grid = Grid::new(SIDE, SIDE, side);
+            tiled::<P, E>(alloc, bench, case, offsets, grid)
+        }
+        _ => whole::<P, E>(alloc, bench, case, offsets),
+    }
+}
+
+/// The microseconds of the best pass.
+fn time<R: Clock, P: Vectored, E: Extremum<P>>(
     rt: &R,
     alloc: Global,
-    plane: &Arc<Plane<P>>,
+    bench: &mut Bench<P>,
     case: Case,
+    offsets: &[Offset],
     side: Option<u32>,
-    out: &mut Plane<P>,
 ) -> Result<u128, Fault> {
     let mut best = u128::MAX;
     let mut spent = 0u128;
     for _ in 0..5 {
         if spent < 2_000_000 {
             let start = Instant::now(rt)?;
-            match side {
-                Some(side) if side_ok(side) => {
-                    tiled::<P, E>(alloc, plane, case, Grid::new(SIDE, SIDE, side), out)?
-                }
-                _ => whole::<P, E>(alloc, plane, case)?,
-            }
+            pass::<P, E>(alloc, bench, case, offsets, side)?;
             let taken = start.elapsed(rt)?.as_micros();
             best = best.min(taken);
             spent = spent.saturating_add(taken);
@@ -277,32 +320,48 @@ fn time<R: std::rt::Clock, P: Vectored, E: Extremum<P>>(
     Ok(best)
 }
 
+/// Prints the times of a case.
+fn measure_case<R: Clock + Print, P: Vectored, E: Extremum<P>>(
+    rt: &R,
+    alloc: Global,
+    bench: &mut Bench<P>,
+    case: Case,
+    offsets: &[Offset],
+    bits: u32,
+) -> Result<(), Fault> {
+    let whole = time::<R, P, E>(rt, alloc, bench, case, offsets, None)?;
+    print!(rt;
+        "{}, {} across, {bits} bits: whole {whole} us",
+        case.filter.name(),
+        case.k
+    )?;
+    for side in [128u32, 512, 1024] {
+        let tiles = time::<R, P, E>(rt, alloc, bench, case, offsets, Some(side))?;
+        print!(rt; ", tiles of {side} {tiles} us")?;
+    }
+    println!(rt; "")?;
+    Ok(())
+}
+
 /// Times the wanted cases on samples of one type.
-fn measure<R: std::rt::Clock + Print, P: Vectored, E: Extremum<P>>(
+fn measure<R: Clock + Print, P: Vectored, E: Extremum<P>>(
     rt: &R,
     alloc: Global,
     wanted: &str,
     bits: u32,
 ) -> Result<(), Fault> {
-    let plane = Arc::new(alloc, Plane::new(SIDE, SIDE, noise::<P>(alloc)?))?;
-    let mut out = Plane::<P>::filled(alloc, SIDE, SIDE, P::TOP)?;
+    let mut bench = Bench::<P>::new(alloc)?;
     for case in CASES {
-        let name = case.filter.name();
-        if wanted == "all" || wanted == name {
-            let whole = time::<R, P, E>(rt, alloc, &plane, case, None, &mut out)?;
-            print!(rt; "{name}, {} across, {bits} bits: whole {whole} us", case.k)?;
-            for side in [128u32, 512, 1024] {
-                let tiles = time::<R, P, E>(rt, alloc, &plane, case, Some(side), &mut out)?;
-                print!(rt; ", tiles of {side} {tiles} us")?;
-            }
-            println!(rt; "")?;
+        if wanted == "all" || wanted == case.filter.name() {
+            let offsets = case.offsets(alloc)?;
+            measure_case::<R, P, E>(rt, alloc, &mut bench, case, &offsets, bits)?;
         }
     }
     Ok(())
 }
 
 /// Times the wanted kernels, or all of them.
-pub(crate) fn time_kernels<R: std::rt::Clock + Print>(
+pub(crate) fn time_kernels<R: Clock + Print>(
     rt: &R,
     alloc: Global,
     wanted: &str,

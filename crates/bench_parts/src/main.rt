@@ -15,7 +15,9 @@ mod files;
 mod jobs;
 mod kernels;
 mod lines;
+mod noise;
 mod side;
+mod tiles;
 mod waits;
 mod words;
 

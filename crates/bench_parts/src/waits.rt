@@ -41,15 +41,16 @@ impl Gate for Kernels {
 }
 
 /// A row of five pixels and a bar of three.
-fn load<R: Wait, J: Naming>(
+fn lay_out<R: Wait, J: Naming>(
     rt: &R,
     alloc: Global,
     board: &Board<J>,
     pass: &mut Pass,
 ) -> Result<(), Fault> {
+    let (f, b) = (image_name()?, element_name()?);
     let row = b"P2\n5 1\n9\n3 1 4 1 5\n".to_vec(alloc)?;
-    accepted(board.load(rt, pass, image_name()?, row)?)?;
-    accepted(board.element(rt, pass, element_name()?, (1, 0), b"P1\n3 1\n111\n")?)
+    accepted(board.load(rt, pass, f, row)?)?;
+    accepted(board.element(rt, pass, b, (1, 0), b"P1\n3 1\n111\n")?)
 }
 
 fn entry_name(session: u32, command: u32) -> Result<Name, Fault> {
@@ -60,18 +61,26 @@ fn entry_name(session: u32, command: u32) -> Result<Name, Fault> {
 }
 
 /// One erosion after another, each waited for before the next.
-fn session<R: Wait, J: Naming>(rt: &R, board: &Board<J>, number: u32) -> Result<(), Fault> {
-    let mut pass = board.pass();
+fn commands<R: Wait, J: Naming>(
+    rt: &R,
+    board: &Board<J>,
+    pass: &mut Pass,
+    number: u32,
+) -> Result<(), Fault> {
     let op = Op::Flat(FlatOp::Erode(image_name()?, element_name()?));
     for command in 0..COMMANDS {
         let name = entry_name(number, command)?;
-        accepted(board.run(rt, &mut pass, name, op)?)?;
-        match board.wait(rt, &mut pass, name)? {
+        accepted(board.run(rt, pass, name, op)?)?;
+        match board.wait(rt, pass, name)? {
             Reply::Done(_, _) => (),
             _ => return Err(Fault::Answer),
         }
     }
     Ok(())
+}
+
+fn session<R: Wait, J: Naming>(rt: &R, board: &Board<J>, number: u32) -> Result<(), Fault> {
+    commands(rt, board, &mut board.pass(), number)
 }
 
 /// The time of so many sessions at once.
@@ -100,7 +109,7 @@ fn beside_workers<R: Threads + Wait + Clock + Sync, J: Naming + Send + Sync>(
     board: &Board<J>,
     sessions: u32,
 ) -> Result<Duration, Fault> {
-    load(rt, alloc, board, &mut board.pass())?;
+    lay_out(rt, alloc, board, &mut board.pass())?;
     let gate = Kernels { alloc };
     let door = &gate;
     thread::scope(thread::scope_env(), rt, |scope| {
@@ -138,21 +147,32 @@ pub(crate) fn command_time<R: Threads + Wait + Clock + Sync>(
     Ok(all / COMMANDS / sessions.max(1))
 }
 
+/// Calls with an item in the log each.
+fn fill_log<R: Wait, J: Naming>(
+    rt: &R,
+    board: &Board<J>,
+    pass: &mut Pass,
+    unknown: Name,
+) -> Result<(), Fault> {
+    for _ in 0..ITEMS {
+        board.status(rt, pass, unknown)?;
+    }
+    Ok(())
+}
+
 /// The image is loaded before all else, and waited for in the end.
 fn behind_log<R: Wait + Clock, J: Naming>(
     rt: &R,
     alloc: Global,
     board: &Board<J>,
+    pass: &mut Pass,
 ) -> Result<Duration, Fault> {
-    let mut pass = board.pass();
-    load(rt, alloc, board, &mut pass)?;
-    let (loaded, unknown) = (image_name()?, entry_name(0, 0)?);
-    for _ in 0..ITEMS {
-        board.status(rt, &mut pass, unknown)?;
-    }
+    lay_out(rt, alloc, board, pass)?;
+    fill_log(rt, board, pass, entry_name(0, 0)?)?;
+    let loaded = image_name()?;
     let start = Instant::now(rt)?;
     for _ in 0..WAITS {
-        board.wait(rt, &mut pass, loaded)?;
+        board.wait(rt, pass, loaded)?;
     }
     Ok(start.elapsed(rt)? / WAITS)
 }
@@ -165,7 +185,7 @@ fn log_on_board<J: Naming, R: Wait + Clock>(
     requires { roll ≡ J.book }
 {
     match new_board::<J>(alloc, Side::Short, roll) {
-        Ok(board) => behind_log(rt, alloc, &board),
+        Ok(board) => behind_log(rt, alloc, &board, &mut board.pass()),
         Err(NoMemory) => Err(Fault::Memory),
     }
 }

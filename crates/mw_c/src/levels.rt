@@ -8,10 +8,10 @@ ghost use Rattle.mw_c_arrays.specs.Arrays.{element_in_bytes, grey_in_array};
 ghost use Rattle.mw_c_arrays.specs.Faults.{element_fault, levels_fault};
 ghost use Rattle.mw_c_calls.specs.Answers.{IsAnswer};
 ghost use Rattle.mw_c_calls.specs.Calls.{call_fault, room_case};
-ghost use Rattle.mw_c_geodesic.specs.LevelsChanges.{h_extrema, regional_extrema};
-ghost use Rattle.mw_c_geodesic.specs.LevelsFaults.{height_fault, kind_case};
+ghost use Rattle.mw_c_geodesic_levels.specs.Changes.{h_extrema, regional_extrema};
+ghost use Rattle.mw_c_geodesic_levels.specs.Faults.{height_fault, kind_case};
 
-use mw_c_geodesic::{
+use mw_c_geodesic_levels::{
     clear_border_u8, clear_border_u16, extrema_h_u8, extrema_h_u16, extrema_regional_u8,
     extrema_regional_u16, fill_u8, fill_u16,
 };

@@ -3,7 +3,7 @@ pub mod FirstCases
 pub mod SourceImages
 -- the crate's own
 mod Bitmaps
+mod ByteTables
 mod Marked
 mod SoundImages
 mod Tops
-mod Written

@@ -2,3 +2,4 @@ pub mod Arrays
 pub mod Faults
 pub mod Sound
 pub mod Sources
+pub mod Tables

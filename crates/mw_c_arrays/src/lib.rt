@@ -18,6 +18,7 @@ pub mod laws;
 mod packing;
 mod sources;
 mod tests;
+mod unpacking;
 mod writing;
 
 pub use arrays::{Bitmap, Grey8, Grey16, Set};

@@ -2,21 +2,8 @@
 
 ghost use Rattle.std.specs.Prelude.{◌≡◌, ◌≤◌, length};
 
-use mw_pixel::{Bit, Image, Plane, View};
-
-/// Writes a byte for each pixel: 1 where it is of the set, else 0.
-fn put_pixels(set: &Plane<Bit>, out: &mut [u8])
-    requires { length set.now.cells ≡ length out.old }
-    ensures { out.new ≡ set.now.cells }
-{
-    let (width, height) = (set.width(), set.height());
-    'rows: for y in 0..height {
-        let start = y as usize * width as usize;
-        'columns: for x in 0..width {
-            out[start + x as usize] = set.at(x, y).number();
-        }
-    }
-}
+use crate::unpacking::put_pixels;
+use mw_pixel::{Image, View};
 
 /// Writes the samples of a set, or of an image in levels of one byte.
 pub fn put_bytes(image: &Image, out: &mut [u8])

@@ -7,7 +7,6 @@ use Rattle.mw_model.specs.declared.offsets.Offset.{Offset}
 use Rattle.mw_model.specs.Codes.{number_and_word}
 use Rattle.mw_model.specs.Pictures.{Picture}
 use Rattle.mw_geodesic.specs.Labels.{IsLabelling}
-use Rattle.mw_geodesic_runs.specs.declared.labels.Labelled.{Labelled}
 use Rattle.mw_c_calls.specs.Answers.{IsAnswer, refusal_number}
 use Rattle.mw_c_geodesic.specs.declared.refusals.Refusal.{Refusal}
 use Rattle.mw_c_geodesic.specs.declared.refusals.Refusal.TheVariants as refusal
@@ -68,12 +67,16 @@ pub image_zero : (r : Result Picture Refusal) (f : Picture) (new : List ℕ) (an
 image_zero (Ok g) f new answer is value made zero = made ∙ ap (λ (h : Picture). h.samples) value
 image_zero (Err c) f new answer is value made zero = absurd (told_not_zero c (sym is ∙ zero))
 
+-- on 0 holds what a result that is there says
+pub made_zero : {A : Type 0} (r : Result A Refusal) (P : Type 0) (answer : ℤ) → answer ≡ answer_told r → IfOk r (λ _. P) → answer ≡ pos 0 → P
+made_zero {A} (Ok a) P answer is made zero = made
+made_zero {A} (Err c) P answer is made zero = absurd (told_not_zero c (sym is ∙ zero))
+
 -- ---- labels
 
-pub labels_zero : (r : Result Labelled Refusal) (e : List Offset) (f : Picture) (new : List ℕ) (count : ℕ) (answer : ℤ) → answer ≡ answer_told r
-    → IfOk r (λ l. IsLabelling e f l.count l.labels.items) → IfOk r (λ l. (new ≡ l.labels.items) × (count ≡ l.count)) → answer ≡ pos 0 → IsLabelling e f count new
-labels_zero (Ok l) e f new count answer is value made zero =
-    subst (λ (t : List ℕ). IsLabelling e f count t) (sym made.0) (subst (λ (t : ℕ). IsLabelling e f t l.labels.items) (sym made.1) value)
+pub labels_zero : (r : Result ℕ Refusal) (e : List Offset) (f : Picture) (new : List ℕ) (count : ℕ) (answer : ℤ) → answer ≡ answer_told r
+    → IfOk r (λ n. IsLabelling e f n new) → IfOk r (λ n. count ≡ n) → answer ≡ pos 0 → IsLabelling e f count new
+labels_zero (Ok n) e f new count answer is value made zero = subst (λ (t : ℕ). IsLabelling e f t new) (sym made) value
 labels_zero (Err c) e f new count answer is value made zero = absurd (told_not_zero c (sym is ∙ zero))
 
 -- ---- the number is the one that is told

@@ -1,17 +1,17 @@
+-- what other crates may cite
+pub mod Answered
+pub mod BitmapElements
+pub mod CoveredAlike
+pub mod Passed
+pub mod RebuiltImages
+pub mod Shapes
 -- the crate's own
-mod Answered
-mod BitmapElements
-mod CoveredAlike
 mod DistanceSizes
-mod LevelsChanged
-mod LevelsPlanes
+mod Measured
 mod Near
 mod Nearest
-mod Passed
 mod RebuildPassed
-mod RebuiltImages
 mod RegionRows
-mod Shapes
 mod ToldFirst
 mod ToldRegions
 mod TurnedSamples

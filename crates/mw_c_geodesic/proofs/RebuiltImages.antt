@@ -1,5 +1,5 @@
 -- Reconstructions as images, and by elements that cover alike.
-use Rattle.std.proofs.Common.{◌≡◌, ℕ, ◌*◌, ◌≤◌, List, length, get_or, refl, ap, sym, subst, arith, ◌∙◌, inl, inr}
+use Rattle.std.proofs.Common.{◌≡◌, ℕ, ◌*◌, ◌≤◌, List, get_or, ap, sym, subst, arith, ◌∙◌, inl, inr}
 use Rattle.std.specs.Prelude.{All, if◌then◌else◌}
 use Rattle.std.proofs.lemmas.Bool.{cases_eq, eq-eqb, ne_eqb}
 use Rattle.std.proofs.lemmas.List.{map-id}
@@ -10,7 +10,7 @@ use Rattle.mw_model.specs.declared.shapes.Kind.TheVariants as kind
 use Rattle.mw_model.specs.Flat.{complement}
 use Rattle.mw_model.specs.Laws.{SameShape}
 use Rattle.mw_model.specs.Pictures.{Picture, picture, IsPicture, IsImage, FitsKind}
-use Rattle.mw_model.specs.Rasters.{Raster}
+use Rattle.mw_model.specs.Rasters.{Raster, raster}
 use Rattle.mw_model.proofs.ImagePlaces.{by_places, sample_bounded, shape_sym, shape_trans}
 use Rattle.mw_pixel.specs.Images.{grey_of}
 use Rattle.mw_geodesic.specs.Geodesics.{reconstruction, reconstruction_by_erosion}
@@ -46,19 +46,21 @@ rebuilt_picture e mask marker is shape =
     let same : mask.maxval ≡ r.maxval = sym ((rebuilt_shape e mask marker).maxval ∙ shape.maxval) in
     record { size = rebuilt_size e mask marker; bounded = subst (λ (m : ℕ). All (λ s. s ≤ m) r.samples) same (rebuilt_bounded e mask marker is shape) }
 
--- planes of levels, whose reconstruction is a plane of levels
-pub plane_is : (e : List Offset) (mask marker made : Raster ℕ) (maxval : ℕ) → picture_by (λ s. s) maxval made ≡ reconstruction e (picture_by (λ s. s) maxval mask) (picture_by (λ s. s) maxval marker)
-    → grey_of made maxval ≡ reconstruction e (grey_of mask maxval) (grey_of marker maxval)
-plane_is e mask marker made maxval is =
-    sym (level_itself made maxval) ∙ is
-    ∙ ap (λ (t : Picture). reconstruction e t (picture_by (λ s. s) maxval marker)) (level_itself mask maxval)
-    ∙ ap (λ (t : Picture). reconstruction e (grey_of mask maxval) t) (level_itself marker maxval)
+-- a plane of an array's samples
+pub array_plane : (maxval w h : ℕ) (p : Raster ℕ) (items samples : List ℕ) → p ≡ raster w h items → items ≡ samples → picture_by (λ s. s) maxval p ≡ picture kind.Grey w h maxval samples
+array_plane maxval w h p items samples p_is is = ap (λ (t : Raster ℕ). picture_by (λ s. s) maxval t) p_is ∙ ap (picture kind.Grey w h maxval) (map-id items ∙ is)
 
-pub plane_within : (e : List Offset) (mask marker made : Raster ℕ) (maxval : ℕ) → All (λ s. s ≤ maxval) mask.cells → length mask.cells ≡ mask.height * mask.width → marker.width ≡ mask.width → marker.height ≡ mask.height
-    → picture_by (λ s. s) maxval made ≡ reconstruction e (picture_by (λ s. s) maxval mask) (picture_by (λ s. s) maxval marker) → All (λ s. s ≤ maxval) made.cells
-plane_within e mask marker made maxval within size wide high is =
-    subst (λ (t : Picture). All (λ s. s ≤ maxval) t.samples) (sym (plane_is e mask marker made maxval is))
-    (rebuilt_bounded e (grey_of mask maxval) (grey_of marker maxval) (record { size = size; bounded = within }) (record { kind = refl; width = wide; height = high; maxval = refl }))
+-- no sample of a plane that is a picture is over its maxval
+pub cells_within : (maxval : ℕ) (p : Raster ℕ) (f : Picture) → picture_by (λ s. s) maxval p ≡ f → IsPicture f → All (λ s. s ≤ maxval) p.cells
+cells_within maxval p f is sound =
+    let moved = subst (λ (t : Picture). IsPicture t) (sym (sym (level_itself p maxval) ∙ is)) sound in
+    moved.bounded
+
+-- what is rebuilt of planes of two images, is rebuilt of these
+pub rebuilt_of_planes : (method : ℕ) (e : List Offset) (mask marker : Picture) (maxval : ℕ) (within below made : Raster ℕ) → picture_by (λ s. s) maxval within ≡ mask → picture_by (λ s. s) maxval below ≡ marker
+    → picture_by (λ s. s) maxval made ≡ rebuilt_by method e (picture_by (λ s. s) maxval within) (picture_by (λ s. s) maxval below) → picture_by (λ s. s) maxval made ≡ rebuilt_by method e mask marker
+rebuilt_of_planes method e mask marker maxval within below made mask_is marker_is is =
+    is ∙ ap (λ (t : Picture). rebuilt_by method e t (picture_by (λ s. s) maxval below)) mask_is ∙ ap (λ (t : Picture). rebuilt_by method e mask t) marker_is
 
 -- ---- images like others
 

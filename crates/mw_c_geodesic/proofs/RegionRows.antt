@@ -1,5 +1,5 @@
 -- Numbers of components that are written one after the other, and what is answered.
-use Rattle.std.proofs.Common.{◌≡◌, ℕ, ◌+◌, ◌*◌, ◌<◌, ◌≤◌, ◌^◌, ◌⊎◌, ℤ, pos, List, [], ◌∷◌, ◌++◌, length, get_or, take, drop, Option, Some, None, refl, ap, sym, subst, arith, ◌∙◌, inl, inr}
+use Rattle.std.proofs.Common.{◌≡◌, ℕ, ◌+◌, ◌*◌, ◌/◌, ◌<◌, ◌≤◌, ◌^◌, ◌⊎◌, ℤ, pos, List, [], ◌∷◌, ◌++◌, length, get_or, take, drop, Option, Some, None, refl, ap, sym, subst, arith, ◌∙◌, inl, inr}
 use Rattle.std.specs.Prelude.{IfErr, IfOk, Result, Ok, Err}
 use Rattle.std.proofs.lemmas.Bool.{cases_lt}
 use Rattle.std.proofs.lemmas.List.{take_at, drop_at, drop-drop, take_more, length-take-le, append_assoc, append-nil}
@@ -9,8 +9,8 @@ use Rattle.mw_model.specs.declared.offsets.Offset.{Offset}
 use Rattle.mw_model.specs.Pictures.{Picture, IsImage}
 use Rattle.mw_pixel.specs.Planes.{put_at}
 use Rattle.mw_geodesic.specs.Labels.{IsLabelling}
-use Rattle.mw_geodesic_runs.specs.declared.regions.Region.{Region}
-use Rattle.mw_geodesic_runs.specs.Regions.{AreRegionsOf}
+use Rattle.mw_geodesic_labels.specs.declared.regions.Region.{Region}
+use Rattle.mw_geodesic_labels.specs.Regions.{AreRegionsOf, AreRegionsWithLabels}
 use Rattle.mw_c_calls.specs.Answers.{refusal_number}
 use Rattle.mw_c_geodesic.specs.declared.refusals.Refusal.{Refusal}
 use Rattle.mw_c_geodesic.specs.declared.refusals.Refusal.TheVariants as refusal
@@ -152,3 +152,31 @@ pub regions_answered : {A : Type 0} (items : A → List Region) (r : Result A Re
     → IfOk r (λ t. Short answer old new (items t)) → IfOk r (λ t. now ≡ length (items t)) → IfErr r (λ c. Refused answer old new was now c) → IsToldBySymmetry e first r → IsRegionsAnswer e first (length old) now answer
 regions_answered {A} items r e None old new was now answer written short counted refused told = told_regions items r e old new was now answer written short counted refused told
 regions_answered {A} items r e (Some c) old new was now answer written short counted refused told = wrong_regions r c old new was now answer refused told
+
+-- ---- labels beside them
+
+pub told_beside : {A : Type 0} (items : A → List Region) (r : Result A Refusal) (e : List Offset) (f : Picture) (most : ℕ) (was_out out : List ℕ) → IfOk r (λ t. AreRegionsWithLabels e f most was_out out (items t)) → IfOk r (λ t. AreRegionsOf e f (items t))
+told_beside {A} items (Ok t) e f most was_out out made = made.are
+told_beside {A} items (Err c) e f most was_out out made = tt
+
+pub few_beside : {A E : Type 0} (items : A → List Region) (r : Result A E) (e : List Offset) (f : Picture) (most : ℕ) (was_out out : List ℕ) → IsImage f → IfOk r (λ t. AreRegionsWithLabels e f most was_out out (items t)) → IfOk r (λ t. length (items t) < 2 ^ 32)
+few_beside {A} {E} items (Ok t) e f most was_out out image made = few_regions e f (items t) image made.are
+few_beside {A} {E} items (Err c) e f most was_out out image made = tt
+
+pub labels_beside : {A : Type 0} (items : A → List Region) (r : Result A Refusal) (e : List Offset) (f : Picture) (most : ℕ) (was_out out old new : List ℕ) (was now : ℕ) (answer : ℤ) → most ≡ length old / 7
+    → IfOk r (λ t. AreRegionsWithLabels e f most was_out out (items t)) → IfOk r (λ t. Short answer old new (items t)) → IfOk r (λ t. now ≡ length (items t)) → IfErr r (λ c. Refused answer old new was now c) → answer ≡ pos 0 → IsLabelling e f now out
+labels_beside {A} items (Ok t) e f most was_out out old new was now answer is made short counted refused zero =
+    elim (cases_lt (length old) (7 * length (items t))) [
+      | inl less ↦ absurd (length_not_zero answer (short less).0 zero)
+      | inr le ↦ subst (λ (n : ℕ). IsLabelling e f n out) (sym counted) (made.labels (omega arith))
+    ]
+labels_beside {A} items (Err c) e f most was_out out old new was now answer is made short counted refused zero = absurd (told_not_zero c (sym refused.0 ∙ zero))
+
+pub labels_kept : {A : Type 0} (items : A → List Region) (r : Result A Refusal) (e : List Offset) (f : Picture) (most : ℕ) (was_out out old new : List ℕ) (answer : ℤ) → most ≡ length old / 7
+    → IfOk r (λ t. AreRegionsWithLabels e f most was_out out (items t)) → IfOk r (λ t. Written answer old new (items t)) → IfErr r (λ _. out ≡ was_out) → (answer ≡ pos 0 → ⊥) → out ≡ was_out
+labels_kept {A} items (Ok t) e f most was_out out old new answer is made written kept not_zero =
+    elim (cases_lt (length old) (7 * length (items t))) [
+      | inl less ↦ made.unlabelled (omega arith)
+      | inr le ↦ absurd (not_zero (written le).0)
+    ]
+labels_kept {A} items (Err c) e f most was_out out old new answer is made written kept not_zero = kept

@@ -12,8 +12,10 @@ use Rattle.mw_geodesic.specs.Geodesics.{reconstruction}
 use Rattle.mw_geodesic.specs.Paths.{point}
 use Rattle.mw_geodesic.specs.Reconstructions.{border_over}
 use Rattle.mw_geodesic.proofs.Borders.{filled_picture, filled_shape, border_picture}
+use Rattle.mw_c_arrays.specs.declared.arrays.Set.{Set}
 use Rattle.mw_c_arrays.specs.declared.sources.ArrayImage.{ArrayImage}
 use Rattle.mw_c_arrays.specs.declared.sources.ArrayImage.TheVariants as source
+use Rattle.mw_c_arrays.specs.Arrays.{set_picture}
 use Rattle.mw_c_arrays.specs.Sources.{IsArrayImage, array_sample_count, picture_in}
 use Rattle.mw_c_arrays.proofs.SourceImages.{source_image, source_samples}
 use Rattle.mw_c_calls.specs.Sources.{LevelsStandIn}
@@ -58,15 +60,14 @@ changed_fits change e f image made is same made_is =
     let now : made ≡ made_alone change e f = made_is ∙ ap (made_alone change e) same in
     subst (λ (t : Picture). FitsKind t.kind t.maxval) (sym now) (image_like (made_alone change e f) f (changed_shape change e f is.picture) (changed_picture change e f is.picture) is).maxval
 
-pub changed_fills : (change : Change) (e : List Offset) (f : ArrayImage) (made : Picture) (room : ℕ) → IsArrayImage f → made ≡ made_alone change e (picture_in f) → room ≡ array_sample_count f → length made.samples ≡ room
+pub changed_fills : (change : Change) (e : List Offset) (f : Set) (made : Picture) (room : ℕ) → IsImage (set_picture f) → made ≡ made_alone change e (set_picture f) → room ≡ length f.pixels.now → length made.samples ≡ room
 changed_fills change e f made room given is same =
-    let image = source_image f given in
-    ap (λ (t : Picture). length t.samples) is ∙ fills_room (made_alone change e (picture_in f)) f room (changed_picture change e (picture_in f) image.picture) (changed_shape change e (picture_in f) image.picture) given same
+    ap (λ (t : Picture). length t.samples) is
+    ∙ fills_room (made_alone change e (set_picture f)) (source.Pixels f) room (changed_picture change e (set_picture f) given.picture) (changed_shape change e (set_picture f) given.picture) given same
 
-pub changed_levels : (change : Change) (e : List Offset) (f : ArrayImage) (made : Picture) → IsArrayImage f → made ≡ made_alone change e (picture_in f) → LevelsStandIn f made.maxval
-changed_levels change e f made given is =
-    let image = source_image f given in
-    source_levels f made.maxval given (ap (λ (t : Picture). t.maxval) is ∙ (changed_shape change e (picture_in f) image.picture).maxval)
+pub changed_small : (change : Change) (e : List Offset) (f : Set) (made : Picture) → IsImage (set_picture f) → made ≡ made_alone change e (set_picture f) → made.maxval ≤ 255
+changed_small change e f made given is =
+    source_levels (source.Pixels f) made.maxval given (ap (λ (t : Picture). t.maxval) is ∙ (changed_shape change e (set_picture f) given.picture).maxval)
 
 -- ---- reconstructions
 

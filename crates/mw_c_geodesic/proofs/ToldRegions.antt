@@ -8,8 +8,8 @@ use Rattle.mw_model.specs.declared.offsets.Offset.{Offset}
 use Rattle.mw_model.specs.Pictures.{Picture}
 use Rattle.mw_model.specs.Flat.{greatest}
 use Rattle.mw_geodesic.specs.Labels.{IsLabelling}
-use Rattle.mw_geodesic_runs.specs.declared.regions.Region.{Region}
-use Rattle.mw_geodesic_runs.specs.Regions.{HasLabel, IsLeast, IsGreatest, IsColumn, IsRow, IsRegion, AreRegionsOf}
+use Rattle.mw_geodesic_labels.specs.declared.regions.Region.{Region}
+use Rattle.mw_geodesic_labels.specs.Regions.{HasLabel, IsLeast, IsGreatest, IsColumn, IsRow, IsRegion, AreRegionsOf}
 use Rattle.mw_c_geodesic.specs.declared.sides.Side.{Side}
 use Rattle.mw_c_geodesic.specs.declared.sides.Side.TheVariants as side
 use Rattle.mw_c_geodesic.specs.declared.told_regions.Tables.{Tables}

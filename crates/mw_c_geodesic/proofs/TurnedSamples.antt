@@ -11,7 +11,7 @@ use Rattle.mw_model.specs.Flat.{complement}
 use Rattle.mw_model.specs.Pictures.{Picture, picture, FitsKind, IsImage, IsPicture}
 use Rattle.mw_model.proofs.ImagePlaces.{same_picture}
 use Rattle.mw_geodesic.proofs.Complements.{complement_picture, sample-complement}
-use Rattle.mw_c_arrays.specs.Arrays.{grey_in_array, pixels_in_bytes, set_in_bytes}
+use Rattle.mw_c_arrays.specs.Arrays.{pixels_in_bytes, set_in_bytes}
 
 -- the first i samples are made of those that were there, and the rest is as it was
 pub record TurnedTo (f : ℕ → ℕ) (old xs : List ℕ) (i : ℕ) : Type 0 where
@@ -74,10 +74,6 @@ set_turned_is f bytes w h is bit wide high turned =
     let by_one : map (λ s. f.maxval - s) f.samples ≡ map (λ s. 1 - s) f.samples = ap (λ (m : ℕ). map (λ s. m - s) f.samples) one in
     let pixels : pixels_in_bytes bytes ≡ map (λ s. f.maxval - s) f.samples = ap pixels_in_bytes (turned ∙ by_one) ∙ pixels_turned f.samples ∙ sym by_one in
     same_parts kind.Bit f.kind w f.width h f.height 1 f.maxval (pixels_in_bytes bytes) (map (λ s. f.maxval - s) f.samples) (sym bit) wide high (sym one) pixels ∙ sym (complement_is f is.picture)
-
-pub grey_turned_is : (f : Picture) (samples : List ℕ) (w h m : ℕ) → IsImage f → f.kind ≡ kind.Grey → w ≡ f.width → h ≡ f.height → m ≡ f.maxval → samples ≡ map (λ s. f.maxval - s) f.samples → grey_in_array w h m samples ≡ complement f
-grey_turned_is f samples w h m is grey wide high top turned =
-    same_parts kind.Grey f.kind w f.width h f.height m f.maxval samples (map (λ s. f.maxval - s) f.samples) (sym grey) wide high top turned ∙ sym (complement_is f is.picture)
 
 -- ---- sets that plain programs made
 

@@ -2,8 +2,6 @@ pub mod Alike
 pub mod CallFaults
 pub mod Changes
 pub mod DistanceCalls
-pub mod LevelsChanges
-pub mod LevelsFaults
 pub mod Methods
 pub mod Regions
 pub mod Sides

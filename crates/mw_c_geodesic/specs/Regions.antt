@@ -6,8 +6,8 @@ use Rattle.mw_model.specs.declared.offsets.Offset.{Offset}
 use Rattle.mw_model.specs.Pictures.{Picture}
 use Rattle.mw_geodesic.specs.Labels.{IsLabelling}
 use Rattle.mw_geodesic.specs.Neighbours.{IsSymmetric}
-use Rattle.mw_geodesic_runs.specs.declared.regions.Region.{Region}
-use Rattle.mw_geodesic_runs.specs.Regions.{AreRegionsOf}
+use Rattle.mw_geodesic_labels.specs.declared.regions.Region.{Region}
+use Rattle.mw_geodesic_labels.specs.Regions.{AreRegionsOf}
 use Rattle.mw_c_calls.specs.Answers.{refusal_number}
 use Rattle.mw_c_geodesic.specs.declared.refusals.Refusal.TheVariants as refusal
 use Rattle.mw_c_geodesic.specs.Told.{number_told}

@@ -1,7 +1,7 @@
 -- From which sides places are looked at, and the least that is told of those with one label.
 use Rattle.std.specs.Prelude.{◌≡◌, ◌⊎◌, ℕ, ◌+◌, ◌-◌, ◌/◌, ◌%◌, ◌<◌, ◌≤◌, ◌^◌, List, length, slice_index, vec_len}
 use Rattle.mw_geodesic.specs.Labels.{AreAreas}
-use Rattle.mw_geodesic_runs.specs.declared.regions.Region.{Region}
+use Rattle.mw_geodesic_labels.specs.declared.regions.Region.{Region}
 use Rattle.mw_c_geodesic.specs.declared.sides.Side.{Side}
 use Rattle.mw_c_geodesic.specs.declared.sides.Side.TheVariants as side
 use Rattle.mw_c_geodesic.specs.declared.told_regions.Tables.{Tables}

@@ -108,7 +108,7 @@ fn are_eight(element: &[Offset]) -> bool
 }
 
 /// The neighbours that the element covers, and nothing else but the place itself, if there are such.
-pub(crate) fn neighbours_in(element: &[Offset]) -> Option<Neighbours>
+pub fn neighbours_in(element: &[Offset]) -> Option<Neighbours>
     ensures { IfSome result (λ n. CoverAlike element.now (neighbours_of n)) }
 {
     if are_four(element) {

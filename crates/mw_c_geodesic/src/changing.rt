@@ -1,15 +1,13 @@
-//! What is made of one image: filled holes, and cleared borders.
+//! What is made of one set: filled holes, and cleared borders.
 
-ghost use Rattle.std.specs.Prelude.{◌≡◌, ◌*◌, ◌<◌, ◌^◌, length, IfOk};
+ghost use Rattle.std.specs.Prelude.{◌≡◌, ◌*◌, ◌<◌, ◌≤◌, ◌^◌, length, None, IfOk};
+ghost use Rattle.mw_model.specs.Pictures.{IsImage};
 ghost use Rattle.mw_pixel.specs.Images.{set_of};
 ghost use Rattle.mw_geodesic.specs.Neighbours.{neighbours_of};
 ghost use Rattle.mw_c_arrays.specs.Arrays.{element_in, set_picture};
-ghost use Rattle.mw_c_arrays.specs.Faults.{bitmap_fault};
+ghost use Rattle.mw_c_arrays.specs.Faults.{bitmap_fault, set_fault};
 ghost use Rattle.mw_c_arrays.specs.Sound.{IsElementBitmap};
-ghost use Rattle.mw_c_arrays.specs.Sources.{IsArrayImage, array_sample_count, picture_in, source_fault};
 ghost use Rattle.mw_c_calls.specs.Calls.{call_fault, room_case};
-ghost use Rattle.mw_c_calls.specs.Sources.{LevelsStandIn};
-ghost use Rattle.mw_model.specs.Pictures.{IsImage};
 ghost use Rattle.mw_c_geodesic.specs.Changes.{made_alone};
 ghost use Rattle.mw_c_geodesic.specs.Told.{IsToldFirst, of_code};
 
@@ -26,7 +24,7 @@ use mw_pixel::{Bit, Image, Plane};
 use mw_reference::ReferenceImage;
 use std::alloc::Global;
 
-/// What is made of an image.
+/// What is made of an image, whether that is a set or has levels of grey.
 #[derive(Clone, Copy)]
 pub enum Change {
     /// Its holes are filled.
@@ -36,7 +34,7 @@ pub enum Change {
 }
 
 /// What a plain program makes.
-fn changed_plainly(
+pub fn changed_plainly(
     alloc: Global,
     change: Change,
     image: &ReferenceImage,
@@ -50,17 +48,17 @@ fn changed_plainly(
     }
 }
 
-/// The same of an image in an array.
+/// The same of a set in an array.
 fn changed_plain(
     alloc: Global,
     change: Change,
-    f: ArrayImage<'_>,
+    f: Set<'_>,
     around: &[Offset],
 ) -> Result<Image, NoMemory>
-    requires { IsArrayImage f }
-    ensures { IfOk result (λ g. g ≡ made_alone change around.now (picture_in f.entry)) }
+    requires { IsImage (set_picture f) }
+    ensures { IfOk result (λ g. g ≡ made_alone change around.now (set_picture f.entry)) }
 {
-    let image = plain(alloc, f)?;
+    let image = plain(alloc, ArrayImage::Pixels(f))?;
     let made = changed_plainly(alloc, change, &image, around)?;
     image_made(alloc, &made)
 }
@@ -97,8 +95,8 @@ fn changed_near(
     bits(alloc, made)
 }
 
-/// What is made of a set.
-fn changed_set(
+/// What is made of a set. It may want memory (`NoMemory`).
+fn changed_under(
     alloc: Global,
     change: Change,
     f: Set<'_>,
@@ -109,58 +107,35 @@ fn changed_set(
 {
     match neighbours_in(around) {
         Some(neighbours) => changed_near(alloc, change, f, neighbours),
-        None => changed_plain(alloc, change, ArrayImage::Pixels(f), around),
-    }
-}
-
-/// What is made of an image. It may want memory (`NoMemory`).
-fn changed_under(
-    alloc: Global,
-    change: Change,
-    f: ArrayImage<'_>,
-    around: &[Offset],
-) -> Result<Image, NoMemory>
-    requires { IsArrayImage f }
-    ensures { IfOk result (λ g. g ≡ made_alone change around.now (picture_in f.entry)) }
-{
-    match f {
-        ArrayImage::Pixels(set) => changed_set(alloc, change, set, around),
-        ArrayImage::Grey8(_) => changed_plain(alloc, change, f, around),
-        ArrayImage::Grey16(_) => changed_plain(alloc, change, f, around),
+        None => changed_plain(alloc, change, f, around),
     }
 }
 
 /// What is made by the element of a bitmap.
-fn changed_by(
-    alloc: Global,
-    change: Change,
-    f: ArrayImage<'_>,
-    b: &Bitmap<'_>,
-) -> Result<Image, NoMemory>
-    requires image { IsArrayImage f }
+fn changed_by(alloc: Global, change: Change, f: Set<'_>, b: &Bitmap<'_>) -> Result<Image, NoMemory>
+    requires image { IsImage (set_picture f) }
     requires element { IsElementBitmap b.now }
-    ensures { IfOk result (λ g. g ≡ made_alone change (element_in b.now) (picture_in f.entry)) }
+    ensures { IfOk result (λ g. g ≡ made_alone change (element_in b.now) (set_picture f.entry)) }
 {
     let element = element(alloc, b)?;
     changed_under(alloc, change, f, element.offsets())
 }
 
-/// What is made of an image in an array, for an array of so many places.
+/// What is made of a set in an array, for an array of so many places.
 pub(crate) fn changed(
     alloc: Global,
     change: Change,
-    number: Option<Code>,
-    f: ArrayImage<'_>,
+    f: Set<'_>,
     b: &Bitmap<'_>,
     room: usize,
 ) -> Result<Image, Refusal>
-    ensures value { IfOk result (λ g. g ≡ made_alone change (element_in b.now) (picture_in f.entry)) }
+    ensures value { IfOk result (λ g. g ≡ made_alone change (element_in b.now) (set_picture f.entry)) }
     ensures size { IfOk result (λ g. length g.samples ≡ room) }
-    ensures levels { IfOk result (λ g. LevelsStandIn f.entry g.maxval) }
-    ensures told { IsToldFirst (of_code (call_fault number (source_fault f.entry) (room_case room (array_sample_count f.entry)) (bitmap_fault b.now))) result }
+    ensures small { IfOk result (λ g. g.maxval ≤ 255) }
+    ensures told { IsToldFirst (of_code (call_fault None (set_fault f.entry) (room_case room (length f.entry.pixels.now)) (bitmap_fault b.now))) result }
 {
-    let places = room_fault(room, f.count());
-    if let Some(code) = refused(number, f.fault(), places, b.fault()) {
+    let places = room_fault(room, f.pixels.len());
+    if let Some(code) = refused(None, f.fault(), places, b.fault()) {
         return Err(Refusal::Of(code));
     }
     match changed_by(alloc, change, f, b) {

@@ -9,7 +9,7 @@ use mw_element::Element;
 use std::alloc::Global;
 
 /// The element of a bitmap. It may want memory (`NoMemory`).
-pub(crate) fn element(alloc: Global, b: &Bitmap<'_>) -> Result<Element, NoMemory>
+pub fn element(alloc: Global, b: &Bitmap<'_>) -> Result<Element, NoMemory>
     requires { IsElementBitmap b.now }
     ensures { IfOk result (λ e. e ≡ bitmap_figure b.now) }
 {

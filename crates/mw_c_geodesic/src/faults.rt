@@ -6,14 +6,14 @@ ghost use Rattle.mw_c_calls.specs.Calls.{call_fault, room_case};
 use mw_c_arrays::{Code, first_of, when};
 
 /// What is wrong with the room for so many samples.
-pub(crate) fn room_fault(room: usize, count: usize) -> Option<Code>
+pub fn room_fault(room: usize, count: usize) -> Option<Code>
     ensures { result ≡ room_case room count }
 {
     when(room != count, Code::Length)
 }
 
 /// The first thing that is wrong with a call: its number, the image, the room for what is made, and the element.
-pub(crate) fn refused(
+pub fn refused(
     number: Option<Code>,
     image: Option<Code>,
     room: Option<Code>,

@@ -36,7 +36,7 @@ fn kind_of(f: ArrayImage<'_>) -> Kind
 }
 
 /// The image for a plain program. It may want memory (`NoMemory`).
-pub(crate) fn plain(alloc: Global, f: ArrayImage<'_>) -> Result<ReferenceImage, NoMemory>
+pub fn plain(alloc: Global, f: ArrayImage<'_>) -> Result<ReferenceImage, NoMemory>
     requires { IsArrayImage f }
     ensures { IfOk result (λ r. r ≡ picture_in f.entry) }
 {
@@ -95,7 +95,7 @@ fn grey16_made(alloc: Global, made: &ReferenceImage) -> Result<Image, NoMemory>
 }
 
 /// What a plain program made, as an image. It may want memory (`NoMemory`).
-pub(crate) fn image_made(alloc: Global, made: &ReferenceImage) -> Result<Image, NoMemory>
+pub fn image_made(alloc: Global, made: &ReferenceImage) -> Result<Image, NoMemory>
     requires { FitsKind made.now.kind made.now.maxval }
     ensures { IfOk result (λ g. g ≡ made.now) }
 {
@@ -112,7 +112,7 @@ pub(crate) fn image_made(alloc: Global, made: &ReferenceImage) -> Result<Image, 
 }
 
 /// A set that a kernel made, as an image.
-pub(crate) fn bits(alloc: Global, set: Plane<Bit>) -> Result<Image, NoMemory>
+pub fn bits(alloc: Global, set: Plane<Bit>) -> Result<Image, NoMemory>
     ensures { IfOk result (λ g. g ≡ set_of set) }
 {
     // for its samples, which are 0 or 1

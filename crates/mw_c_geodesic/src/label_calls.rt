@@ -7,7 +7,7 @@ ghost use Rattle.mw_c_arrays.specs.Faults.{element_fault, pixels_fault};
 ghost use Rattle.mw_c_calls.specs.Calls.{call_fault, room_case};
 ghost use Rattle.mw_c_geodesic.specs.Told.{IsSymmetricAnswer};
 
-use crate::answers::answer_labels;
+use crate::answers::answer_count;
 use crate::labelling::labels;
 use mw_c_arrays::{Bitmap, Set};
 use std::alloc::Global;
@@ -42,5 +42,5 @@ pub fn label_set(
         origin_x: element_x,
         origin_y: element_y,
     };
-    answer_labels(labels(alloc, image, &element, out.len()), out, components)
+    answer_count(labels(alloc, image, &element, out), components)
 }

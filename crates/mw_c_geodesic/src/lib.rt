@@ -1,13 +1,13 @@
-//! Geodesic operators on arrays of the caller, as a library that other crates can stand on: reconstruction and what follows
-//! from it, the components of a set, what is told of each, and distances. Each function answers 0 where the caller's array has what
-//! the operator's definition makes, and else the number of a refusal, and that array is as it was. Nothing is required of
-//! a caller: every function tests its arguments.
+//! Geodesic operators on arrays of the caller, as a library that other crates can stand on: reconstruction, filled holes and
+//! cleared borders of sets, the components of a set, what is told of each, and distances. Each function answers 0 where the
+//! caller's array has what the operator's definition makes, and else the number of a refusal, and that array is as it was.
+//! Nothing is required of a caller: every function tests its arguments.
 //!
 //! It stands beside `mw_c_calls`, in whose words its contracts speak, and apart from the functions that C calls, each of
 //! which is one call of the function of its name here. An element that covers the four or the eight neighbours, with its
-//! origin or without it and in whatever bitmap, goes to the kernels of `mw_geodesic_runs`, `mw_geodesic_kept`,
-//! `mw_geodesic_levels` and `mw_geodesic_grey`, since elements that cover alike make the same; any other goes to the plain
-//! programs of `mw_geodesic`.
+//! origin or without it and in whatever bitmap, goes to the kernels of `mw_geodesic_labels`, `mw_geodesic_kept` and
+//! `mw_geodesic_levels`, since elements that cover alike make the same; any other goes to the plain programs of `mw_geodesic`.
+//! What is made of one image in levels of grey stands above it, in `mw_c_geodesic_levels`.
 //!
 //! ```text
 //! // the labels of the components of a row, by the neighbours to the left and to the right
@@ -19,6 +19,7 @@ mod alike;
 mod answers;
 mod area;
 mod changing;
+mod component_calls;
 mod distance_calls;
 mod distances;
 mod elements;
@@ -26,10 +27,7 @@ mod faults;
 mod images;
 mod label_calls;
 mod labelling;
-mod levels_calls;
-mod levels_changing;
-mod levels_extrema;
-mod levels_images;
+mod measuring;
 mod rebuild;
 mod rebuild_calls;
 mod rebuild_faults;
@@ -43,10 +41,15 @@ mod sides;
 mod told_regions;
 mod turning;
 
+pub use alike::neighbours_in;
+pub use answers::{answer, answer_bytes, answer_words};
+pub use changing::{Change, changed_plainly};
+pub use component_calls::components_set;
 pub use distance_calls::distance_set;
+pub use elements::element;
+pub use faults::{refused, room_fault};
+pub use images::{bits, image_made, plain};
 pub use label_calls::label_set;
-pub use levels_calls::{clear_border_u8, clear_border_u16, fill_u8, fill_u16};
-pub use levels_extrema::{extrema_h_u8, extrema_h_u16, extrema_regional_u8, extrema_regional_u16};
 pub use rebuild_calls::{reconstruct_set, reconstruct_u8, reconstruct_u16};
 pub use refusals::Refusal;
 pub use region_calls::regions_set;

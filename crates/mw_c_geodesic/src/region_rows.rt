@@ -7,7 +7,7 @@ ghost use Rattle.mw_c_geodesic.specs.Regions.{region_row, region_rows};
 ghost use Rattle.mw_c_geodesic.specs.Told.{number_told};
 
 use crate::refusals::{Refusal, number};
-use mw_geodesic_runs::Region;
+use mw_geodesic_labels::Region;
 use mw_model::Code;
 
 /// How many numbers are written of a component.

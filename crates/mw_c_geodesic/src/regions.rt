@@ -3,7 +3,7 @@
 ghost use Rattle.std.specs.Prelude.{◌≡◌, ◌<◌, ◌^◌, length, None, IfOk};
 ghost use Rattle.mw_model.specs.Pictures.{IsImage};
 ghost use Rattle.mw_geodesic.specs.Neighbours.{IsSymmetric, neighbours_of};
-ghost use Rattle.mw_geodesic_runs.specs.Regions.{AreRegionsOf};
+ghost use Rattle.mw_geodesic_labels.specs.Regions.{AreRegionsOf};
 ghost use Rattle.mw_c_arrays.specs.Arrays.{element_in, set_picture};
 ghost use Rattle.mw_c_arrays.specs.Faults.{bitmap_fault, set_fault};
 ghost use Rattle.mw_c_arrays.specs.Sound.{IsElementBitmap};
@@ -18,7 +18,7 @@ use crate::refusals::Refusal;
 use crate::told_regions::regions_told;
 use mw_c_arrays::{Bitmap, Code, NoMemory, Set};
 use mw_geodesic::{Neighbours, is_symmetric};
-use mw_geodesic_runs::{Region, regions_of};
+use mw_geodesic_labels::{Region, regions_of};
 use mw_model::Offset;
 use std::alloc::Global;
 

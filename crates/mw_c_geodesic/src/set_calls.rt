@@ -13,7 +13,7 @@ ghost use Rattle.mw_c_geodesic.specs.Told.{IsSymmetricAnswer};
 use crate::answers::answer_bytes;
 use crate::area::large;
 use crate::changing::{Change, changed};
-use mw_c_arrays::{ArrayImage, Bitmap, Set};
+use mw_c_arrays::{Bitmap, Set};
 use std::alloc::Global;
 
 /// The set with its holes: what no path outside of it leads to from the border.
@@ -45,8 +45,7 @@ pub fn fill_set(
         origin_x: element_x,
         origin_y: element_y,
     };
-    let source = ArrayImage::Pixels(image);
-    let made = changed(alloc, Change::Filled, None, source, &element, out.len());
+    let made = changed(alloc, Change::Filled, image, &element, out.len());
     answer_bytes(made, out)
 }
 
@@ -79,8 +78,7 @@ pub fn clear_border_set(
         origin_x: element_x,
         origin_y: element_y,
     };
-    let source = ArrayImage::Pixels(image);
-    let made = changed(alloc, Change::Cleared, None, source, &element, out.len());
+    let made = changed(alloc, Change::Cleared, image, &element, out.len());
     answer_bytes(made, out)
 }
 

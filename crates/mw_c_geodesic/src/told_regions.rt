@@ -5,12 +5,12 @@ ghost use Rattle.mw_model.specs.declared.limits.TheConstants.{SIDE_LIMIT};
 ghost use Rattle.mw_model.specs.declared.offsets.Offset.{Offset};
 ghost use Rattle.mw_model.specs.Pictures.{Picture};
 ghost use Rattle.mw_geodesic.specs.Labels.{IsLabelling};
-ghost use Rattle.mw_geodesic_runs.specs.Regions.{AreRegionsOf};
+ghost use Rattle.mw_geodesic_labels.specs.Regions.{AreRegionsOf};
 ghost use Rattle.mw_c_geodesic.specs.Sides.{AreTables, IsRegionIn};
 
 use crate::sides::{Side, nearest};
 use mw_geodesic::areas;
-use mw_geodesic_runs::Region;
+use mw_geodesic_labels::Region;
 use mw_model::NoMemory;
 use std::alloc::Global;
 

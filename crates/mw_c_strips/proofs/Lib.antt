@@ -5,8 +5,9 @@ mod Cutting
 mod UnderOffsets
 mod RowCells
 mod OriginImages
-mod ByteTables
 mod Gathered
+mod InPlace
+mod UnderBoxes
 mod PixelValues
 mod SmallLevels
 mod Refilled

@@ -1,5 +1,5 @@
 -- Arrays that take some rows of an image: what is asked of them, where the rows end, and that there is room for each.
-use Rattle.std.proofs.Common.{◌≡◌, ℕ, ◌+◌, ◌-◌, ◌*◌, ◌/◌, ◌%◌, ◌<◌, ◌≤◌, true, ◌&&◌, List, length, take, drop, ap, sym, subst, arith, ◌∙◌, inl, inr, length-take, length-drop}
+use Rattle.std.proofs.Common.{◌≡◌, ℕ, ◌+◌, ◌-◌, ◌*◌, ◌/◌, ◌%◌, ◌<◌, ◌≤◌, true, ◌&&◌, length, take, drop, ap, sym, subst, arith, ◌∙◌, inl, inr, length-take, length-drop}
 use Rattle.std.specs.Prelude.{nat_le, ◌==◌}
 use Rattle.std.proofs.lemmas.Bool.{and_parts, cases_lt, eqb-true, le-leb, leb-true, lt-leb}
 use Rattle.std.proofs.lemmas.List.{take_all}

@@ -1,5 +1,5 @@
 -- Cells that begin with those of an image from some row on, and more of them.
-use Rattle.std.proofs.Common.{◌≡◌, ℕ, ◌+◌, ◌-◌, ◌*◌, ◌<◌, ◌≤◌, List, [], ◌∷◌, map, length, take, drop, get_or, ap, sym, arith, ◌∙◌, inl, inr, get_or-set_other, get_or-set_same, get_or-take, get_or-drop, ext_get_or}
+use Rattle.std.proofs.Common.{◌≡◌, ℕ, ◌+◌, ◌-◌, ◌*◌, ◌<◌, ◌≤◌, List, [], ◌∷◌, map, length, drop, get_or, ap, sym, arith, ◌∙◌, inl, inr, get_or-set_other, get_or-set_same, get_or-take, get_or-drop, ext_get_or}
 use Rattle.std.specs.Prelude.{slice_set}
 use Rattle.std.proofs.lemmas.Bool.{cases_lt}
 use Rattle.std.proofs.lemmas.List.{get_or-map, length-map}
@@ -85,11 +85,11 @@ row_full level f first y n cells is before i d lt = before i d (omega (arith, lt
     next : (y w : ℕ) → (y + 1) * w ≡ y * w + w
     next y w = omega arith
 
-some_of : {A : Type 0} (xs : List A) (i : ℕ) → i < length xs → A
+pub some_of : {A : Type 0} (xs : List A) (i : ℕ) → i < length xs → A
 some_of [] i lt = absurd (omega arith)
 some_of (x ∷ xs) i lt = x
 
-level_there : {A : Type 0} (level : A → ℕ) (xs : List A) (i m : ℕ) → i < length xs → ((d : A) → level (get_or xs i d) ≡ m) → get_or (map level xs) i 0 ≡ m
+pub level_there : {A : Type 0} (level : A → ℕ) (xs : List A) (i m : ℕ) → i < length xs → ((d : A) → level (get_or xs i d) ≡ m) → get_or (map level xs) i 0 ≡ m
 level_there level xs i m within is = let d = some_of xs i within in get_or-map level xs i d 0 within ∙ is d
 
 -- all rows that the array has

@@ -1,5 +1,6 @@
+pub mod Boxes
+pub mod InPlace
 pub mod Layers
 pub mod Origins
 pub mod Parts
 pub mod Rows
-pub mod Tables

@@ -16,13 +16,13 @@ mod applying_rows;
 mod by_pixel;
 mod cuts;
 mod gathering;
+mod in_place;
 mod layers;
 mod origins;
 mod room;
 mod rows;
 mod samples;
 mod strips;
-mod unpacking;
 mod windows;
 mod writing;
 

@@ -1,14 +1,17 @@
 //! Strips that are written one after another into a caller's array, which takes all rows of an image or some of them.
 
-ghost use Rattle.std.specs.Prelude.{◌≡◌, ℕ, ◌+◌, ◌*◌, ◌<◌, ◌≤◌, length, map, IfErr, IfOk};
+ghost use Rattle.std.specs.Prelude.{◌≡◌, ℕ, ◌+◌, ◌*◌, ◌<◌, ◌≤◌, length, map, IfErr, IfOk, false, true};
 ghost use Rattle.mw_model.specs.Pictures.{Picture};
-ghost use Rattle.mw_c_strips.specs.Layers.{IsFormula, first_origin, formula_picture};
+ghost use Rattle.mw_c_arrays.specs.Sources.{IsArrayImage, picture_in};
+ghost use Rattle.mw_c_strips.specs.InPlace.{AreMiddleRows};
+ghost use Rattle.mw_c_strips.specs.Layers.{IsFormula, first_origin, formula_picture, rule_picture};
 ghost use Rattle.mw_c_strips.specs.Parts.{HasImageRows, IsStrip, part_of};
 ghost use Rattle.mw_c_strips.specs.Rows.{AreRows, EndAt, rows_from};
 
 use crate::Sample;
 use crate::by_pixel::level_at;
 use crate::cuts::{ask_once, rows_of, strip_from};
+use crate::in_place::{Middle, middle_of, put_middle};
 use crate::layers::{Formula, Layer, origin_of};
 use crate::origins::Origin;
 use crate::strips::strip_of;
@@ -138,8 +141,82 @@ fn end_of(formula: Formula<'_>, first: u32, count: usize) -> u32
     first + rows as u32
 }
 
-/// Writes what the formula makes from row `first` on, strip by strip, as many rows as the array has. It wants memory only
-/// before the first row is written: where memory is refused to a strip behind the first, its rows are made place by place.
+/// Writes the rows from `first` on up to `end`, strip by strip. It wants memory only before the first row is written: where
+/// memory is refused to a strip behind the first, its rows are made place by place.
+fn put_strips<P: Sample>(
+    alloc: Global,
+    formula: Formula<'_>,
+    first: u32,
+    end: u32,
+    out: &mut [P],
+) -> Result<(), NoMemory>
+    requires sound { IsFormula formula }
+    requires ends { EndAt first end (length out.old) (formula_picture formula) }
+    requires stands { P.stands (formula_picture formula).maxval }
+    ensures made { IfOk result (λ _. map P.level out.new ≡ rows_from first (length out.old) (formula_picture formula.entry)) }
+    ensures kept { IfErr result (λ _. out.new ≡ out.old) }
+{
+    let f = first_origin(formula);
+    let width = f.width();
+    let rows = rows_of(formula);
+    ask_once(alloc, rows, end - first);
+    let strip = strip_from(rows, width, end, first);
+    {
+        // given back before the next strip
+        let image = strip_of(alloc, formula, strip)?;
+        put_rows(&image, strip, 0, out);
+    }
+    let done = first + strip.height;
+    put_rest(alloc, formula, first, done, end, out);
+    Ok(())
+}
+
+/// Writes the rows from `first` on up to `end`, if there are any.
+fn put_any<P: Sample>(alloc: Global, formula: Formula<'_>, first: u32, end: u32, out: &mut [P])
+    requires sound { IsFormula formula }
+    requires ends { first < end → EndAt first end (length out.old) (formula_picture formula) }
+    requires none { end ≤ first → length out.old ≡ 0 }
+    requires stands { P.stands (formula_picture formula).maxval }
+    ensures { map P.level out.new ≡ rows_from first (length out.old) (formula_picture formula.entry) }
+{
+    if first < end {
+        put_rest(alloc, formula, first, first, end, out);
+    }
+}
+
+/// Writes the rows from `first` on up to `end`, if there is a kernel for those in the middle: these come first, since nothing else
+/// may want memory that is not there.
+fn put_around<P: Sample>(
+    alloc: Global,
+    middle: Middle<'_>,
+    first: u32,
+    end: u32,
+    out: &mut [P],
+) -> Result<bool, NoMemory>
+    requires sound { IsArrayImage middle.f }
+    requires between { AreMiddleRows first end middle }
+    requires ends { EndAt first end (length out.old) (picture_in middle.f) }
+    requires stands { P.stands (rule_picture middle.rule (picture_in middle.f)).maxval }
+    ensures made { IfOk result (λ done. done ≡ true → map P.level out.new ≡ rows_from first (length out.old) (rule_picture middle.entry.rule (picture_in middle.entry.f))) }
+    ensures left_out { IfOk result (λ done. done ≡ false → out.new ≡ out.old) }
+    ensures kept { IfErr result (λ _. out.new ≡ out.old) }
+{
+    let width = middle.f.width() as usize;
+    let above = (middle.from - first) as usize * width;
+    let count = (middle.to - middle.from) as usize * width;
+    let (head, rest) = out.split_at_mut(above);
+    let (made, tail) = rest.split_at_mut(count);
+    if !put_middle(alloc, middle, made)? {
+        return Ok(false);
+    }
+    let formula = Formula::One(Layer::By(middle.rule, Origin::Array(middle.f)));
+    put_any(alloc, formula, first, middle.from, head);
+    put_any(alloc, formula, middle.to, end, tail);
+    Ok(true)
+}
+
+/// Writes what the formula makes from row `first` on, as many rows as the array has: in place where there is a kernel for that,
+/// else strip by strip.
 pub(crate) fn write_rows<P: Sample>(
     alloc: Global,
     formula: Formula<'_>,
@@ -152,20 +229,13 @@ pub(crate) fn write_rows<P: Sample>(
     ensures made { IfOk result (λ _. map P.level out.new ≡ rows_from first (length out.old) (formula_picture formula.entry)) }
     ensures kept { IfErr result (λ _. out.new ≡ out.old) }
 {
-    let f = first_origin(formula);
-    let width = f.width();
     let end = end_of(formula, first, out.len());
-    let rows = rows_of(formula);
-    ask_once(alloc, rows, end - first);
-    let strip = strip_from(rows, width, end, first);
-    {
-        // given back before the next strip
-        let image = strip_of(alloc, formula, strip)?;
-        put_rows(&image, strip, 0, out);
+    if let Some(middle) = middle_of(formula, first, end) {
+        if put_around(alloc, middle, first, end, out)? {
+            return Ok(());
+        }
     }
-    let done = first + strip.height;
-    put_rest(alloc, formula, first, done, end, out);
-    Ok(())
+    put_strips(alloc, formula, first, end, out)
 }
 
 /// Writes all that the formula makes.

@@ -9,7 +9,7 @@ use Rattle.clap.specs.declared.parser.matches.ArgMatches.{ArgMatches}
 use Rattle.clap.specs.declared.parser.matches.ArgMatches.TheViews.{out-ArgMatches, out-SubCommand}
 use Rattle.clap.specs.declared.parser.matches.SubCommand.{SubCommand}
 use Rattle.std.specs.Box.{box_value}
-use Rattle.mw_cli.specs.CommandLine.{AreListens, AreServes, AreTaken, AsksIdle, AsksNoCrew, AsksNoIdle, AsksWorkers, Faults, IsCrew, IsRefused, IsUpTo, Reads, WritesNoPort, WritesNone, WritesNumber, program_words, text_in, usual_workers}
+use Rattle.mw_cli.specs.CommandLine.{AreListens, AreServes, AreTaken, AsksNoCrew, AsksNoneUpTo, AsksUpTo, AsksWorkers, Faults, IsCrew, IsRefused, IsUpTo, Reads, WritesNoPort, WritesNone, WritesNumber, program_words, text_in, usual_workers}
 use Rattle.mw_cli.specs.declared.fault.LineFault.{LineFault}
 use Rattle.mw_cli.specs.declared.fault.LineFault.TheVariants as fault
 
@@ -77,23 +77,23 @@ missing_is_no_port (Some t) e n w ok = cc
 pub no_other_port : (text : Option Text) (m : ℕ) → WritesNumber text m → (m ≤ 65535 → ⊥) → WritesNoPort text
 no_other_port text m v bad n w ok = bad (subst (λ k. k ≤ 65535) (one_number text n m w v) ok)
 
-pub asks_any_time : (text : Option Text) → text ≡ None → AsksIdle text None
-asks_any_time None e = refl
-asks_any_time (Some t) e = cc
+pub asks_none : (most : ℕ) (text : Option Text) → text ≡ None → AsksUpTo most text None
+asks_none most None e = refl
+asks_none most (Some t) e = cc
 
-pub asks_seconds : (text : Option Text) (n : ℕ) → WritesNumber text n → IsUpTo 86400 n → AsksIdle text (Some n)
-asks_seconds None n w ok = absurd w
-asks_seconds (Some t) n w ok = (w, ok)
+pub asks_number : (most : ℕ) (text : Option Text) (n : ℕ) → WritesNumber text n → IsUpTo most n → AsksUpTo most text (Some n)
+asks_number most None n w ok = absurd w
+asks_number most (Some t) n w ok = (w, ok)
 
-pub no_other_idle : (text : Option Text) (m : ℕ) → WritesNumber text m → (IsUpTo 86400 m → ⊥) → AsksNoIdle text
-no_other_idle None m v bad idle asked = absurd v
-no_other_idle (Some t) m v bad None asked = asked
-no_other_idle (Some t) m v bad (Some n) asked = bad (subst (IsUpTo 86400) (one_number (Some t) n m asked.0 v) asked.1)
+pub no_other_number : (most : ℕ) (text : Option Text) (m : ℕ) → WritesNumber text m → (IsUpTo most m → ⊥) → AsksNoneUpTo most text
+no_other_number most None m v bad asked is = absurd v
+no_other_number most (Some t) m v bad None is = is
+no_other_number most (Some t) m v bad (Some n) is = bad (subst (IsUpTo most) (one_number (Some t) n m is.0 v) is.1)
 
-pub unread_is_no_idle : (E : Type 0) (text : Option Text) (x : E) → Reads text (Err x) → AsksNoIdle text
-unread_is_no_idle E None x h idle asked = h.0 refl
-unread_is_no_idle E (Some t) x h None asked = asked
-unread_is_no_idle E (Some t) x h (Some n) asked = h.1 n asked.0
+pub unread_is_no_number : (E : Type 0) (most : ℕ) (text : Option Text) (x : E) → Reads text (Err x) → AsksNoneUpTo most text
+unread_is_no_number E most None x h asked is = h.0 refl
+unread_is_no_number E most (Some t) x h None is = is
+unread_is_no_number E most (Some t) x h (Some n) is = h.1 n is.0
 
 -- the name of the job that the matches have
 pub name-rows : (m : ArgMatches) → subcommand_name_of m ≡ option_map (λ p. p.0) (subcommand_rows_of m)
@@ -124,4 +124,7 @@ faults_refuse processors words fault.Sessions taken h = (taken, h)
 faults_refuse processors words fault.ServeSessions taken h = (taken, h)
 faults_refuse processors words fault.Tile taken h = (taken, h)
 faults_refuse processors words fault.Idle taken h = (taken, h)
+faults_refuse processors words fault.Queue taken h = (taken, h)
+faults_refuse processors words fault.Grace taken h = (taken, h)
+faults_refuse processors words fault.Status taken h = (taken, h)
 faults_refuse processors words fault.NoMemory taken h = tt

@@ -76,15 +76,33 @@ server_words name port crew sessions flag =
 abbrev pub listen_words : App
 listen_words = server_words (codes "listen") port_option crew_option sessions_option (flag_option (codes "announce"))
 
--- `serve [--port P] [--workers W] [--sessions C] [--tile T] [--idle S] [--until-end]`; left out, the port is 0, the workers are 1 and the sessions 16
+-- `--grace S`, 10 where it is left out
+abbrev pub grace_option : Rule
+grace_option = usual_option (codes "grace") (codes "10")
+
+-- `--queue N`; clap has no number for it where it is left out
+abbrev pub queue_option : Rule
+queue_option = number_option (codes "queue")
+
+-- `--status P`; clap has no number for it where it is left out
+abbrev pub status_option : Rule
+status_option = number_option (codes "status")
+
+-- `serve [--port P] [--workers W] [--sessions C] [--tile T] [--idle S] [--until-end] [--grace S] [--queue N] [--status P]`; left out, the port is 0, the workers are 1 and the sessions 16
 abbrev pub serve_words : App
 serve_words =
-    server_words
+    with_rule
+    (with_rule
+    (with_rule
+    (server_words
     (codes "serve")
     (usual_option (codes "port") (codes "0"))
     (usual_option (codes "workers") (codes "1"))
     (usual_option (codes "sessions") (codes "16"))
-    (flag_option (codes "until-end"))
+    (flag_option (codes "until-end")))
+    grace_option)
+    queue_option)
+    status_option
 
 -- `morphd`, which has a version to show
 abbrev pub bare_words : App
@@ -174,15 +192,27 @@ Sets text flag =
     × (text ≡ Some (codes "false") → flag ≡ false)
     × (text ≡ None → flag ≡ false)
 
+-- the text asks for a number from 1 to the most that there may be; left out, it asks for none
+abbrev pub AsksUpTo : ℕ → Option Text → Option ℕ → Type 0
+AsksUpTo most None asked = asked ≡ None
+AsksUpTo most (Some text) None = ⊥
+AsksUpTo most (Some text) (Some n) = WritesNumber (Some text) n × IsUpTo most n
+
+-- the text asks for no such number, and not for none
+abbrev pub AsksNoneUpTo : ℕ → Option Text → Type 0
+AsksNoneUpTo most text = (asked : Option ℕ) → AsksUpTo most text asked → ⊥
+
 -- the text asks for so many seconds; left out, it asks for none
 abbrev pub AsksIdle : Option Text → Option ℕ → Type 0
-AsksIdle None idle = idle ≡ None
-AsksIdle (Some text) None = ⊥
-AsksIdle (Some text) (Some seconds) = WritesNumber (Some text) seconds × IsUpTo 86400 seconds
+AsksIdle = AsksUpTo 86400
 
 -- the text asks for no bound on waiting that there may be, and not for none
 abbrev pub AsksNoIdle : Option Text → Type 0
-AsksNoIdle text = (idle : Option ℕ) → AsksIdle text idle → ⊥
+AsksNoIdle = AsksNoneUpTo 86400
+
+-- the text asks for a number, or for none
+abbrev pub AsksSome : ℕ → Option Text → Type 0
+AsksSome most text = (asked : Option ℕ) × AsksUpTo most text asked
 
 -- the text writes a port, or 0
 abbrev pub WritesPort : Option Text → Type 0
@@ -217,6 +247,9 @@ AsksServe rows given =
     × (WritesNumber (text_in (codes "sessions") rows) given.sessions × IsUpTo 1024 given.sessions)
     × (WritesNumber (text_in (codes "tile") rows) given.side × IsTileSide given.side)
     × AsksIdle (text_in (codes "idle") rows) given.idle
+    × AsksUpTo 1024 (text_in (codes "queue") rows) given.queue
+    × (WritesNumber (text_in (codes "grace") rows) given.grace × IsUpTo 86400 given.grace)
+    × AsksUpTo 65535 (text_in (codes "status") rows) given.status
     × Sets (text_in (codes "until-end") rows) given.until_end
 
 -- the rows ask for this job
@@ -281,6 +314,30 @@ FaultsServe rows fault.Idle =
     × WritesUpTo 1024 (text_in (codes "sessions") rows)
     × WritesSide (text_in (codes "tile") rows)
     × AsksNoIdle (text_in (codes "idle") rows)
+FaultsServe rows fault.Queue =
+    WritesPort (text_in (codes "port") rows)
+    × WritesUpTo 64 (text_in (codes "workers") rows)
+    × WritesUpTo 1024 (text_in (codes "sessions") rows)
+    × WritesSide (text_in (codes "tile") rows)
+    × AsksSome 86400 (text_in (codes "idle") rows)
+    × AsksNoneUpTo 1024 (text_in (codes "queue") rows)
+FaultsServe rows fault.Grace =
+    WritesPort (text_in (codes "port") rows)
+    × WritesUpTo 64 (text_in (codes "workers") rows)
+    × WritesUpTo 1024 (text_in (codes "sessions") rows)
+    × WritesSide (text_in (codes "tile") rows)
+    × AsksSome 86400 (text_in (codes "idle") rows)
+    × AsksSome 1024 (text_in (codes "queue") rows)
+    × WritesNone 86400 (text_in (codes "grace") rows)
+FaultsServe rows fault.Status =
+    WritesPort (text_in (codes "port") rows)
+    × WritesUpTo 64 (text_in (codes "workers") rows)
+    × WritesUpTo 1024 (text_in (codes "sessions") rows)
+    × WritesSide (text_in (codes "tile") rows)
+    × AsksSome 86400 (text_in (codes "idle") rows)
+    × AsksSome 1024 (text_in (codes "queue") rows)
+    × WritesUpTo 86400 (text_in (codes "grace") rows)
+    × AsksNoneUpTo 65535 (text_in (codes "status") rows)
 FaultsServe rows f = ⊥
 
 -- this is the first fault of the job's numbers

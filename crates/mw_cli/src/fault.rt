@@ -18,6 +18,9 @@ pub enum LineFault {
     ServeSessions,
     Tile,
     Idle,
+    Queue,
+    Grace,
+    Status,
     NoMemory,
 }
 
@@ -45,6 +48,9 @@ impl LineFault {
             LineFault::ServeSessions => eprintln!(rt; "error: sessions must be from 1 to 1024"),
             LineFault::Tile => eprintln!(rt; "error: tile must be a multiple of 64"),
             LineFault::Idle => eprintln!(rt; "error: idle must be from 1 to 86400"),
+            LineFault::Queue => eprintln!(rt; "error: queue must be from 1 to 1024"),
+            LineFault::Grace => eprintln!(rt; "error: grace must be from 1 to 86400"),
+            LineFault::Status => eprintln!(rt; "error: status must be from 1 to 65535"),
             LineFault::NoMemory => eprintln!(rt; "error: memory"),
         }
     }

@@ -2,7 +2,7 @@
 
 ghost use Rattle.std.specs.Prelude.{◌≡◌, ◌≤◌, ◌∷◌, [], false, ◌↔◌, codes, IfOk, IfErr, IfSome, IsTrue, None, map};
 ghost use Rattle.clap.specs.Words.{app_of, kind_of, new_app, rule_of, subcommand_rows_of};
-ghost use Rattle.mw_cli.specs.CommandLine.{AreListens, AreServes, Asks, AsksBatch, AsksIdle, AsksListen, AsksNoCrew, AsksNoIdle, AsksServe, AsksWorkers, Faults, FaultsBatch, FaultsListen, FaultsServe, HasNoGlobals, IsAsked, IsCrew, IsNoText, IsRefused, IsUpTo, Reads, Sets, WritesNumber, WritesNone, WritesNoPort, WritesNoSide, bare_words, batch_words, flag_option, listen_words, number_option, program_words, serve_words, text_in, tile_option, usual_option, usual_workers};
+ghost use Rattle.mw_cli.specs.CommandLine.{AreListens, AreServes, Asks, AsksBatch, AsksIdle, AsksListen, AsksNoCrew, AsksNoIdle, AsksNoneUpTo, AsksServe, AsksUpTo, AsksWorkers, Faults, FaultsBatch, FaultsListen, FaultsServe, HasNoGlobals, IsAsked, IsCrew, IsNoText, IsRefused, IsUpTo, Reads, Sets, WritesNumber, WritesNone, WritesNoPort, WritesNoSide, bare_words, batch_words, flag_option, listen_words, number_option, program_words, serve_words, text_in, tile_option, usual_option, usual_workers};
 ghost use Rattle.mw_grid.specs.Grids.{IsTileSide};
 ghost use Rattle.std.specs.String.{string_bytes};
 
@@ -56,8 +56,9 @@ pub struct ListenOptions {
 }
 
 /// The port to listen on, 0 for any; how many workers compute each session, how many sessions are served at once, the
-/// side of the tiles, how many seconds a session waits for its client, and whether the end of standard input ends the
-/// service.
+/// side of the tiles, how many seconds a session waits for its client, how many clients may wait for a session, how many
+/// seconds sessions go on once the service is to end, the port at which it says how it is, and whether the end of standard
+/// input ends it.
 #[derive(Clone, Copy, Debug, PartialEq, Eq)]
 pub struct ServeOptions {
     pub port: u16,
@@ -65,6 +66,9 @@ pub struct ServeOptions {
     pub sessions: usize,
     pub side: u32,
     pub idle: Option<u32>,
+    pub queue: Option<u32>,
+    pub grace: u32,
+    pub status: Option<u16>,
     pub until_end: bool,
 }
 
@@ -168,6 +172,10 @@ fn serve_command<'a>(alloc: Global) -> Result<Command<'a>, AllocError>
     let crew = "How many workers compute each session: 1 to 64";
     let served = "How many sessions are served at once, each by a connection: 1 to 1024";
     let until = "Ends the service at the end of standard input, once its sessions have ended";
+    let grace = "How many seconds sessions may go on when the service ends: 1 to 86400";
+    let queue =
+        "How many clients may wait for a session, and the next is told ERR 60 BUSY: 1 to 1024 [default: any number]";
+    let status = "The port where it tells in a line of JSON how it is: 1 to 65535 [default: none]";
     let about =
         "Serves sessions over TCP on 127.0.0.1, each on a table of its own, and says on which port";
     job_command(alloc, "serve", about, SERVING)
@@ -176,7 +184,10 @@ fn serve_command<'a>(alloc: Global) -> Result<Command<'a>, AllocError>
         .arg(usual_option(alloc, "sessions", "C", served, "16"))?
         .arg(tile_option(alloc))?
         .arg(idle_option(alloc))?
-        .arg(flag_option(alloc, "until-end", until))
+        .arg(flag_option(alloc, "until-end", until))?
+        .arg(usual_option(alloc, "grace", "S", grace, "10"))?
+        .arg(number_option(alloc, "queue", "N", queue))?
+        .arg(number_option(alloc, "status", "P", status))
 }
 
 // The program, without its jobs.
@@ -284,16 +295,42 @@ fn flag_of(matches: &ArgMatches<'_>, id: &str) -> bool
     }
 }
 
+// The number of an option that may be left out; this fault where it is not from 1 to the most that there may be.
+#[tactic(auto, using(crate::proofs::CommandReads::asks_none, crate::proofs::CommandReads::asks_number, crate::proofs::CommandReads::unread_is_no_number, crate::proofs::CommandReads::no_other_number))]
+fn asked_up_to(
+    matches: &ArgMatches<'_>,
+    id: &str,
+    most: u32,
+    fault: LineFault,
+) -> Result<Option<u32>, LineFault>
+    ensures ok { IfOk result (AsksUpTo most (text_in id.now (subcommand_rows_of matches.now))) }
+    ensures err { IfErr result (λ e. (e ≡ fault) × AsksNoneUpTo most (text_in id.now (subcommand_rows_of matches.now))) }
+{
+    match number_of(matches, id) {
+        Ok(None) => Ok(None),
+        Ok(Some(number)) if is_up_to(number, most) => Ok(Some(number)),
+        _ => Err(fault),
+    }
+}
+
 // How many seconds a session waits for its client; none where it waits any time.
-#[tactic(auto, using(crate::proofs::CommandReads::asks_any_time, crate::proofs::CommandReads::asks_seconds, crate::proofs::CommandReads::unread_is_no_idle, crate::proofs::CommandReads::no_other_idle))]
 fn idle_of(matches: &ArgMatches<'_>) -> Result<Option<u32>, LineFault>
     ensures ok { IfOk result (AsksIdle (text_in (codes "idle") (subcommand_rows_of matches.now))) }
     ensures err { IfErr result (λ e. (e ≡ LineFault.Idle) × AsksNoIdle (text_in (codes "idle") (subcommand_rows_of matches.now))) }
 {
-    match number_of(matches, "idle") {
+    asked_up_to(matches, "idle", 86400, LineFault::Idle)
+}
+
+// The port of the status; none where there is to be none.
+#[tactic(auto, using(crate::proofs::CommandReads::asks_none, crate::proofs::CommandReads::asks_number, crate::proofs::CommandReads::unread_is_no_number, crate::proofs::CommandReads::no_other_number))]
+fn status_of(matches: &ArgMatches<'_>) -> Result<Option<u16>, LineFault>
+    ensures ok { IfOk result (AsksUpTo 65535 (text_in (codes "status") (subcommand_rows_of matches.now))) }
+    ensures err { IfErr result (λ e. (e ≡ LineFault.Status) × AsksNoneUpTo 65535 (text_in (codes "status") (subcommand_rows_of matches.now))) }
+{
+    match number_of(matches, "status") {
         Ok(None) => Ok(None),
-        Ok(Some(seconds)) if is_up_to(seconds, 86400) => Ok(Some(seconds)),
-        _ => Err(LineFault::Idle),
+        Ok(Some(port)) if is_up_to(port, 65535) => Ok(Some(port as u16)),
+        _ => Err(LineFault::Status),
     }
 }
 
@@ -351,12 +388,20 @@ fn serve_of(matches: &ArgMatches<'_>) -> Result<ServeOptions, LineFault>
     };
     let side = side_of(matches)?;
     let idle = idle_of(matches)?;
+    let queue = asked_up_to(matches, "queue", 1024, LineFault::Queue)?;
+    let Some(grace) = number_up_to(matches, "grace", 86400) else {
+        return Err(LineFault::Grace);
+    };
+    let status = status_of(matches)?;
     Ok(ServeOptions {
         port,
         workers: workers as usize,
         sessions: sessions as usize,
         side,
         idle,
+        queue,
+        grace,
+        status,
         until_end: flag_of(matches, "until-end"),
     })
 }
@@ -432,8 +477,8 @@ fn is_memory(error: &clap::Error) -> bool
 }
 
 /// What the words ask for; the first of them is the program's name. Clap reads them first, then the
-/// numbers are tested: the port, the workers, the sessions, the side of the tiles, and then the seconds that a session
-/// waits. Left out, the workers of a batch are as many as there are processors, and at most 16.
+/// numbers are tested: the port, the workers, the sessions, the side of the tiles, the seconds that a session waits, and
+/// then the queue, the seconds of grace and the port of the status. Left out, the workers of a batch are as many as there are processors, and at most 16.
 pub fn options(alloc: Global, words: &[String], processors: usize) -> Result<Job, LineFault>
     ensures job { IfOk result (IsAsked processors (map string_bytes words.now)) }
     ensures fault { IfErr result (IsRefused processors (map string_bytes words.now)) }

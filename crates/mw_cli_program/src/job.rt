@@ -6,7 +6,7 @@ ghost use Rattle.mw_grid.specs.Grids.{IsTileSide};
 ghost use Rattle.mw_server_serve.specs.mw_wire.Failures.{IsUnread};
 ghost use Rattle.mw_cli_program.specs.Jobs.{IsPossible, Performed, Scripted};
 
-use mw_cli::{BatchOptions, Job, ListenOptions, ServeOptions};
+use mw_cli::{BatchOptions, Job, ListenOptions, ServeOptions, VERSION};
 use mw_server_listen::{Kernels, listen};
 use mw_server_serve::wire::{Sink, Source};
 use mw_server_serve::{Crew, batch, serve, strict_batch};
@@ -28,6 +28,19 @@ fn crew_of<'r, R>(rt: &'r R, alloc: Global, given: &BatchOptions) -> Crew<'r, R>
     }
 }
 
+/// How many words of eight bytes are asked for: the most that the C library learns from.
+const ROOM: usize = 4190000;
+
+/// Asks for much memory and gives it back untouched. An allocator that learns by what is freed, as that of the GNU C library
+/// does, then keeps what tasks free for those that come: else their pages are made anew. Whether it is refused makes no
+/// difference. It is no good for a service, which is to give back what a session took.
+fn ask_once(alloc: Global) {
+    match Vec::<u64>::with_capacity(alloc, ROOM) {
+        Ok(_room) => (),
+        Err(_refused) => (),
+    }
+}
+
 /// Runs a script, strictly where that is asked for.
 fn run_batch<R: Threads + Sync, I: Read, O: Write, F: Write>(
     crew: Crew<R>,
@@ -43,6 +56,7 @@ fn run_batch<R: Threads + Sync, I: Read, O: Write, F: Write>(
         let new : SessionEnds = ends_of I.remaining O.contents F.contents source.new sink.new faults.new in
         Scripted given.now.strict old new result }
 {
+    ask_once(crew.alloc);
     if given.strict {
         strict_batch(crew, source, sink, faults, given.side)
     } else {
@@ -76,6 +90,9 @@ fn separate_service(given: &ServeOptions) -> mw_server_serve::Service
     ensures sessions { result.sessions ≡ given.now.sessions }
     ensures side { result.side ≡ given.now.side }
     ensures idle { result.idle ≡ given.now.idle }
+    ensures queue { result.queue ≡ given.now.queue }
+    ensures grace { result.grace ≡ given.now.grace }
+    ensures status { result.status ≡ given.now.status }
 {
     mw_server_serve::Service {
         port: given.port,
@@ -83,6 +100,10 @@ fn separate_service(given: &ServeOptions) -> mw_server_serve::Service
         sessions: given.sessions,
         side: given.side,
         idle: given.idle,
+        queue: given.queue,
+        grace: given.grace,
+        status: given.status,
+        version: VERSION,
     }
 }
 

@@ -2,6 +2,8 @@
 
 ghost use Rattle.std.specs.Prelude.{◌≤◌};
 
+use crate::job::WaveTask;
+use crate::worth::threads_for;
 use std::alloc::{AllocError, Global};
 
 /// How many samples the tasks of a wave make for each worker. They are held until they are handed back: 2 MiB of samples
@@ -10,7 +12,7 @@ use std::alloc::{AllocError, Global};
 const SAMPLES_PER_WORKER: u64 = 2 << 20;
 
 /// Never fewer tasks than this for each worker, so that those that take longer are made up for by others.
-const LEAST_PER_WORKER: u64 = 16;
+const LEAST_PER_WORKER: u64 = 8;
 
 /// Who runs the work: the allocator, the handle that starts threads, and how many of them may run at once, the one that
 /// has the core among them. No worker counts as one.
@@ -50,5 +52,13 @@ impl<T> Crew<'_, T> {
         ensures { self.entry.workers ≤ result }
     {
         self.workers.saturating_mul(per_worker(side))
+    }
+
+    /// How many threads are started for the tasks of a wave, beside the one who has the core: none for a single one.
+    pub(crate) fn others(self, jobs: &[WaveTask]) -> usize {
+        if jobs.len() < 2 {
+            return 0;
+        }
+        threads_for(jobs, self.workers.saturating_sub(1).min(jobs.len()))
     }
 }

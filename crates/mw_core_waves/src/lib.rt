@@ -14,6 +14,7 @@ mod pick;
 mod shared;
 mod wave;
 mod work;
+mod worth;
 
 pub use crew::Crew;
 pub use mw_core::Core;

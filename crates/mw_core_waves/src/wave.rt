@@ -13,6 +13,7 @@ ghost use Rattle.mw_core_waves.specs.Work.{Turned};
 
 use crate::job::{WaveTask, answered};
 use crate::shared::{MadeTile, make_by, make_some};
+use crate::worth::is_small;
 use crate::{Crew, Pick};
 use mw_core::{Core, Started};
 use mw_step::task::{TaskRefused, TileDone, Work};
@@ -35,8 +36,32 @@ fn start_next<P: Pick>(core: &mut Core, pick: &mut P) -> Started
     core.start(place)
 }
 
-/// Takes up to so many ready tasks more, for which there is room.
-fn take_more<P: Pick>(core: &mut Core, pick: &mut P, most: usize, jobs: &mut Vec<WaveTask>)
+/// Keeps a task that was taken for a wave, or runs it at once where it is worth less than to hand it over.
+fn keep_or_run(alloc: Global, core: &mut Core, jobs: &mut Vec<WaveTask>, work: Work)
+    requires room { vec_len jobs.old < vec_capacity jobs.old }
+    requires jobs { AllByRecursion IsBoundedJob jobs.old.items }
+    requires bounded { AllByRecursion IsBounded work.windows }
+    ensures underway { (m : Machine) (old : CoreView) (others : List WaveTask) → Underway m old core.old (WaveTask.Waits work ∷ (others ++ jobs.old.items)) 1 → Underway m old core.new (others ++ jobs.new.items) 1 }
+    ensures jobs { AllByRecursion IsBoundedJob jobs.new.items }
+    ensures one { vec_len jobs.new ≤ vec_len jobs.old + 1 }
+    ensures capacity { vec_capacity jobs.new ≡ vec_capacity jobs.old }
+{
+    if is_small(&work) {
+        hand_in(core, mw_step::run(alloc, work));
+        return;
+    }
+    jobs.push_reserved(WaveTask::Waits(work));
+}
+
+/// Takes up to so many ready tasks more, for which there is room. Those that are worth less than to hand them over are run at
+/// once.
+fn take_more<P: Pick>(
+    alloc: Global,
+    core: &mut Core,
+    pick: &mut P,
+    most: usize,
+    jobs: &mut Vec<WaveTask>,
+)
     requires room { vec_len jobs.old + most ≤ vec_capacity jobs.old }
     requires bounded { AllByRecursion IsBoundedJob jobs.old.items }
     ensures underway { (m : Machine) (old : CoreView) (others : List WaveTask) → Underway m old core.old (others ++ jobs.old.items) 1 → Underway m old core.new (others ++ jobs.new.items) 1 }
@@ -44,7 +69,7 @@ fn take_more<P: Pick>(core: &mut Core, pick: &mut P, most: usize, jobs: &mut Vec
 {
     'tasks: for _taken in 0..most {
         match start_next(core, pick) {
-            Started::Work(work) => jobs.push_reserved(WaveTask::Waits(work)),
+            Started::Work(work) => keep_or_run(alloc, core, jobs, work),
             Started::Refused(_) => {}
             Started::Idle => return,
         }
@@ -88,7 +113,7 @@ fn take_wave<P: Pick>(alloc: Global, most: usize, core: &mut Core, pick: &mut P)
     let most = core.ready_count().min(most as u64) as usize;
     match Vec::with_capacity(alloc, most) {
         Ok(mut jobs) => {
-            take_more(core, pick, most, &mut jobs);
+            take_more(alloc, core, pick, most, &mut jobs);
             jobs
         }
         Err(_) => Vec::new(alloc),
@@ -117,8 +142,8 @@ fn own_part<P: Pick>(
     make_some(alloc, jobs, begun)
 }
 
-/// Makes the tasks of a wave in as many threads as there are workers, and a single one without. The one who has the core does
-/// his own part first. Gives what the others made, and what he made himself.
+/// Makes the tasks of a wave in as many threads as they are worth. The one who has the core does his own part first. Gives
+/// what the others made, and what he made himself.
 fn make_beside<P: Pick, T: Threads + Sync>(
     crew: Crew<T>,
     jobs: &[WaveTask],
@@ -135,11 +160,11 @@ fn make_beside<P: Pick, T: Threads + Sync>(
     let next = AtomicUsize::new(0);
     let (rt, alloc, begun) = (crew.rt, crew.alloc, &next);
     let most = crew.wave(core.side());
-    if jobs.len() < 2 {
+    let others = crew.others(jobs);
+    if others == 0 {
         let mine = own_part(alloc, most, jobs, begun, core, pick, beside);
         return (Ok(Vec::new(alloc)), mine);
     }
-    let others = crew.workers.saturating_sub(1).min(jobs.len());
     thread::join_mut(
         rt,
         &mut || -> Result<Vec<Vec<MadeTile>>, AllocError>
@@ -195,11 +220,11 @@ fn run_waves<P: Pick, T: Threads + Sync>(
 }
 
 /// An empty list for the tasks of a wave, with so many others beside the first. There is none for one worker, for a task
-/// that has no other beside it, and where memory is refused.
-fn list<T>(crew: Crew<T>, side: u32, others: u64) -> Option<Vec<WaveTask>>
+/// that has no other beside it or is worth less than to hand it over, and where memory is refused.
+fn list<T>(crew: Crew<T>, side: u32, first: &Work, others: u64) -> Option<Vec<WaveTask>>
     ensures { IfSome result (λ v. (v.items ≡ []) × (1 ≤ vec_capacity v) × (0 < crew.entry.workers)) }
 {
-    if crew.workers <= 1 || others == 0 {
+    if crew.workers <= 1 || others == 0 || is_small(first) {
         return None;
     }
     let most = (crew.wave(side) as u64).min(others.saturating_add(1));
@@ -214,10 +239,16 @@ fn run_beside<P: Pick, T: Threads + Sync>(crew: Crew<T>, core: &mut Core, pick: 
     requires { AllByRecursion IsBounded first.windows }
     ensures { (m : Machine) (old : CoreView) → Underway m old core.old (WaveTask.Waits first ∷ []) 1 → Underway m old core.new [] 1 }
 {
-    match list(crew, core.side(), core.ready_count()) {
+    match list(crew, core.side(), &first, core.ready_count()) {
         Some(mut jobs) => {
             jobs.push_reserved(WaveTask::Waits(first));
-            take_more(core, pick, jobs.capacity() - jobs.len(), &mut jobs);
+            take_more(
+                crew.alloc,
+                core,
+                pick,
+                jobs.capacity() - jobs.len(),
+                &mut jobs,
+            );
             run_waves(crew, core, pick, jobs);
         }
         None => hand_in(core, mw_step::run(crew.alloc, first)),

@@ -1,5 +1,5 @@
 -- What becomes of the classes of two neighbours.
-use Rattle.std.proofs.Common.{◌≡◌, ◌≢◌, ℕ, ◌+◌, ◌*◌, ◌<◌, ◌≤◌, List, length, set, ap, sym, subst, arith, ◌∙◌, inl, inr}
+use Rattle.std.proofs.Common.{◌≡◌, ◌≢◌, ℕ, ◌+◌, ◌*◌, ◌<◌, ◌≤◌, Bool, true, false, List, length, set, ap, sym, subst, arith, ◌∙◌, inl, inr}
 use Rattle.std.specs.Prelude.{◌==◌}
 use Rattle.std.proofs.lemmas.Bool.{eqb-true}
 use Rattle.mw_geodesic.specs.Neighbours.{IsSymmetric}
@@ -204,3 +204,12 @@ meets_turned a p q r t size out size' parent parent' parent'' lt lt' turns found
     let met = met_merged (Unit {0}) a (a.levels p) p (p + 1) q p t r c size out size' parent' (meeting_turned a (a.levels p) p (p + 1) p q r t c size out g) less within (small_turned a.least r t size out small) (found.keeps c are) whole put in
     subst (λ (l : List ℕ). HasMet a (a.levels p) p (p + 1) (Unit {0}) p q c out l size' out) (sym is)
     (met_turned (Unit {0}) a (a.levels p) p (p + 1) p q c out size' out (set parent' r t) met)
+
+-- where two need not meet, all stays as it is
+pub meets_not : (a : Problem) (p q : ℕ) (Needed : Type 0) (parent : List ℕ) (size out : ℕ → ℕ) → (Needed → ⊥) → Meets a p q Needed parent size out parent size out
+meets_not a p q Needed parent size out none = λ c are some stands to joins.
+    record { roots = c; are = are; stands = stands; keeps = λ i j lt lt' alike. alike; here = λ needed. absurd (none needed) }
+
+pub not_both : (b : Bool) → b ≡ true → b ≡ false → ⊥
+not_both true is_true is_false = cc
+not_both false is_true is_false = cc

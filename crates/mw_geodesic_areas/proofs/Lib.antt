@@ -4,6 +4,7 @@ mod Chained
 mod Joins
 mod Merges
 mod Opened
+mod PlainOpenings
 mod Planes
 mod Rasters
 mod Roots

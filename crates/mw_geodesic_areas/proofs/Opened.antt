@@ -68,7 +68,7 @@ greatest_from pass b (suc n) v low lt is each = elim (cases_eq b v) [
       ]
 ]
 
-greatest_is : (pass : ℕ → Bool) (top v : ℕ) → v ≤ top → (1 ≤ v → pass v ≡ true) → ((k : ℕ) → 1 ≤ k → v < k → k ≤ top → pass k ≡ false) → greatest (filter pass (range_with_len 1 top)) ≡ v
+pub greatest_is : (pass : ℕ → Bool) (top v : ℕ) → v ≤ top → (1 ≤ v → pass v ≡ true) → ((k : ℕ) → 1 ≤ k → v < k → k ≤ top → pass k ≡ false) → greatest (filter pass (range_with_len 1 top)) ≡ v
 greatest_is pass top v le here above = elim (cases_lt v 1) [
   | inl none ↦ greatest_none pass 1 top (λ k low lt. above k low (omega arith) (omega arith)) ∙ (omega arith)
   | inr some ↦ greatest_from pass 1 top v some (omega arith) (here some) (λ k over lt. above k (omega arith) over (omega arith))

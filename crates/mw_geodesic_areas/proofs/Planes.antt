@@ -1,6 +1,6 @@
 -- Planes of samples, and what is made of them.
-use Rattle.std.proofs.Common.{◌≡◌, ℕ, ◌+◌, ◌-◌, ◌*◌, ◌<◌, List, length, map, refl, ap, sym, subst, arith, ◌∙◌}
-use Rattle.std.proofs.lemmas.List.{length-map}
+use Rattle.std.proofs.Common.{◌≡◌, ℕ, ◌+◌, ◌-◌, ◌*◌, ◌<◌, List, length, get_or, map, refl, ap, sym, subst, arith, ◌∙◌}
+use Rattle.std.proofs.lemmas.List.{get_or-map, length-map}
 use Rattle.mw_model.specs.declared.offsets.Offset.{Offset}
 use Rattle.mw_model.specs.declared.shapes.Kind.TheVariants as kind
 use Rattle.mw_model.specs.Pictures.{Picture, picture, sample, IsPicture}
@@ -14,7 +14,7 @@ use Rattle.mw_geodesic_levels.specs.Levels.{level_numbered}
 use Rattle.mw_geodesic_levels.specs.Pictures.{picture_by, element_with_corners}
 use Rattle.mw_geodesic_areas.specs.Problems.{problem, IsOpened}
 use Rattle.mw_geodesic_areas.proofs.Areas.{in_frame}
-use Rattle.mw_geodesic_areas.proofs.Opened.{shown, opened_lists}
+use Rattle.mw_geodesic_areas.proofs.Opened.{asked, shown, opened_lists}
 
 -- as many samples as another plane of the same sides
 pub same_size : (a b c d n : ℕ) → n ≡ a * b → a ≡ c → b ≡ d → n ≡ c * d
@@ -37,14 +37,18 @@ opened_planes level maxval least frame image r element xs vs elements wide high 
     ∙ ap (λ (e : List Offset). area_opening e least (shown maxval frame.width frame.height (map level xs))) elements
     ∙ ap (λ (f : Picture). area_opening element least f) same
 
+complement_lists : (maxval w h : ℕ) (ns ms : List ℕ) → length ns ≡ h * w → length ms ≡ h * w → ((i : ℕ) → i < length ns → get_or ms i 0 ≡ maxval - get_or ns i 0) → shown maxval w h ms ≡ complement (shown maxval w h ns)
+complement_lists maxval w h ns ms size size' each =
+    let f = shown maxval w h ns in
+    same_picture (shown maxval w h ms) (complement f) (record { kind = refl; width = refl; height = refl; maxval = refl }) size'
+    (length-rows (λ x y. maxval - sample f x y) w 0 h)
+    (λ x y a b. each (y * w + x) (omega (arith, size, in_frame w h x y a b)) ∙ sym (sample-complement f x y a b))
+
 pub complement_plane : {A : Type 0} (level : A → ℕ) (maxval : ℕ) (p q : Raster A) → q.width ≡ p.width → q.height ≡ p.height → length p.cells ≡ p.height * p.width → length q.cells ≡ p.height * p.width
     → ((i : ℕ) → i < length p.cells → level_numbered level q.cells i ≡ maxval - level_numbered level p.cells i) → picture_by level maxval q ≡ complement (picture_by level maxval p)
 complement_plane level maxval p q wide high size size' each =
-    let f = picture_by level maxval p in
     same_picture_of level maxval p.width p.height q wide high
-    ∙ same_picture (shown maxval p.width p.height (map level q.cells)) (complement f) (record { kind = refl; width = refl; height = refl; maxval = refl }) (length-map q.cells level ∙ size')
-    (length-rows (λ x y. maxval - sample f x y) p.width 0 p.height)
-    (λ x y a b. each (y * p.width + x) (omega (arith, size, in_frame p.width p.height x y a b)) ∙ sym (sample-complement f x y a b))
+    ∙ complement_lists maxval p.width p.height (map level p.cells) (map level q.cells) (length-map p.cells level ∙ size) (length-map q.cells level ∙ size') (λ i lt. each i (omega (arith, length-map p.cells level)))
 
 -- the same where the samples were written over those of the first
 pub complement_samples : {A : Type 0} (level : A → ℕ) (maxval : ℕ) (p q : Raster A) (xs ys : List A) → q.width ≡ p.width → q.height ≡ p.height → length p.cells ≡ p.height * p.width → xs ≡ p.cells → q.cells ≡ ys → length ys ≡ length xs
@@ -72,3 +76,18 @@ closed_planes level maxval least element image turned opened r first second thir
     third
     ∙ ap complement second
     ∙ ap (λ (f : Picture). complement (area_opening element least f)) first
+
+-- the same by lists: the levels of a list, turned over, are opened, and turned back
+pub closed_lists : {A : Type 0} (level : A → ℕ) (maxval w h least : ℕ) (element e : List Offset) (xs us vs : List A) → e ≡ element → length xs ≡ h * w → length us ≡ h * w → length vs ≡ h * w
+    → ((i : ℕ) → i < h * w → IsOpened (asked e w h (map (λ s. maxval - s) (map level xs)) least) (get_or (map level us) i 0) i)
+    → ((i : ℕ) → i < length us → level_numbered level vs i ≡ maxval - level_numbered level us i) → shown maxval w h (map level vs) ≡ area_closing element least (shown maxval w h (map level xs))
+closed_lists level maxval w h least element e xs us vs same size us_size vs_size each back =
+    let ns : List ℕ = map level xs in
+    let ms : List ℕ = map (λ s. maxval - s) ns in
+    let ns_size : length ns ≡ h * w = length-map xs level ∙ size in
+    let ms_size : length ms ≡ h * w = length-map ns (λ s. maxval - s) ∙ ns_size in
+    let turned : shown maxval w h ms ≡ complement (shown maxval w h ns) = complement_lists maxval w h ns ms ns_size ms_size (λ i lt. get_or-map (λ s. maxval - s) ns i 0 0 lt) in
+    let is : IsPicture (shown maxval w h ms) = subst (λ (f : Picture). IsPicture f) (sym turned) (complement_picture (shown maxval w h ns)) in
+    let opened = opened_lists e maxval w h least ms (map level us) is (length-map us level ∙ us_size) each in
+    complement_lists maxval w h (map level us) (map level vs) (length-map us level ∙ us_size) (length-map vs level ∙ vs_size) (λ i lt. back i (omega (arith, length-map us level)))
+    ∙ ap complement (opened ∙ ap (λ (t : List Offset). area_opening t least (shown maxval w h ms)) same ∙ ap (λ (f : Picture). area_opening element least f) turned)

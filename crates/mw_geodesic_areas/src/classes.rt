@@ -3,6 +3,7 @@
 ghost use Rattle.std.specs.Prelude.{◌≡◌, ◌↔◌, ◌+◌, ◌*◌, ◌<◌, ◌≤◌, ◌^◌, length, slice_index, set, true, false, IsTrue};
 ghost use Rattle.mw_geodesic_levels.specs.Levels.{level_numbered, IsPut};
 ghost use Rattle.mw_geodesic_areas.specs.Problems.{problem};
+ghost use Rattle.mw_geodesic_areas.specs.Seen.{level_seen};
 ghost use Rattle.mw_geodesic_areas.specs.Forests.{IsParentForest};
 ghost use Rattle.mw_geodesic_areas.specs.Classes.{WasTaken, HasItsLevel, IsLargeBy, IsSmallBy, Meets, MeetsRow, MeetsAll};
 
@@ -10,12 +11,41 @@ use crate::forest::find;
 use mw_geodesic_levels::found::{Frame, Place, above, at, below, put, reach};
 use mw_pixel::Pixel;
 
-/// The samples of an image, its sides, and from how many places on a component is large.
+/// The samples of an image, its sides, and from how many places on a component is large. Of an image that is turned over each
+/// level is looked at as what the maxval is over it, so that no complement has to be kept.
 #[derive(Drop)]
 pub(crate) struct Task<'a, P: Pixel> {
     pub samples: &'a [P],
     pub frame: Frame,
     pub least: u32,
+    pub turned: bool,
+    pub maxval: u16,
+}
+
+/// The sample of a level.
+#[inline(always)]
+fn sample_of<P: Pixel>(level: u16) -> P
+    requires { level ≤ P.top_level }
+    ensures { P.level result ≡ level }
+{
+    match P::of(level) {
+        Some(sample) => sample,
+        None => unreachable!(),
+    }
+}
+
+/// The sample with a number, as it is looked at.
+#[inline(always)]
+pub(crate) fn sample_seen<P: Pixel>(task: &Task<'_, P>, i: usize) -> P
+    requires inside { i < length task.now.samples.now }
+    requires fits { task.now.maxval ≤ P.top_level }
+    ensures { P.level result ≡ level_seen P.level task.now.turned task.now.maxval task.now.samples.now i }
+{
+    let sample = at(task.samples, i);
+    if task.turned {
+        return sample_of(task.maxval.saturating_sub(sample.value()));
+    }
+    sample
 }
 
 /// Gives a class its level, unless it has one.
@@ -76,10 +106,11 @@ fn join<P: Pixel>(
     requires links { length links.old ≡ task.now.frame.height * task.now.frame.width }
     requires out { length out.old ≡ task.now.frame.height * task.now.frame.width }
     requires samples { length task.now.samples.now ≡ task.now.frame.height * task.now.frame.width }
+    requires fits { task.now.maxval ≤ P.top_level }
     requires first { p < task.now.frame.height * task.now.frame.width }
     requires second { q < task.now.frame.height * task.now.frame.width }
     ensures forest { IsParentForest parent.new }
-    ensures met { Meets (problem task.now.frame (level_numbered P.level task.now.samples.now) task.now.least) p q (Unit {0}) parent.old (slice_index links.old) (level_numbered P.level out.old) parent.new (slice_index links.new) (level_numbered P.level out.new) }
+    ensures met { Meets (problem task.now.frame (level_seen P.level task.now.turned task.now.maxval task.now.samples.now) task.now.least) p q (Unit {0}) parent.old (slice_index links.old) (level_numbered P.level out.old) parent.new (slice_index links.new) (level_numbered P.level out.new) }
 {
     let r = find(parent, p);
     let s = find(parent, q);
@@ -87,7 +118,7 @@ fn join<P: Pixel>(
         return;
     }
     if is_large(links, out, r, s, task.least) {
-        let sample = at(task.samples, p as usize);
+        let sample = sample_seen(task, p as usize);
         settle(out, r, sample);
         settle(out, s, sample);
         return;
@@ -101,13 +132,14 @@ fn join<P: Pixel>(
 
 /// Whether place q is taken, where p was taken last.
 #[inline(always)]
-fn is_taken<P: Pixel>(samples: &[P], p: u32, q: u32) -> bool
-    requires first { p < length samples.now }
-    requires second { q < length samples.now }
-    ensures { IsTrue result ↔ WasTaken (level_numbered P.level samples.now) (level_numbered P.level samples.now p) p q }
+fn is_taken<P: Pixel>(task: &Task<'_, P>, p: u32, q: u32) -> bool
+    requires first { p < length task.now.samples.now }
+    requires second { q < length task.now.samples.now }
+    requires fits { task.now.maxval ≤ P.top_level }
+    ensures { IsTrue result ↔ WasTaken (level_seen P.level task.now.turned task.now.maxval task.now.samples.now) (level_seen P.level task.now.turned task.now.maxval task.now.samples.now p) p q }
 {
-    let here = at(samples, p as usize).value();
-    let there = at(samples, q as usize).value();
+    let here = sample_seen(task, p as usize).value();
+    let there = sample_seen(task, q as usize).value();
     if there == here {
         return p <= q;
     }
@@ -129,12 +161,13 @@ fn touch<P: Pixel>(
     requires links { length links.old ≡ task.now.frame.height * task.now.frame.width }
     requires out { length out.old ≡ task.now.frame.height * task.now.frame.width }
     requires samples { length task.now.samples.now ≡ task.now.frame.height * task.now.frame.width }
+    requires fits { task.now.maxval ≤ P.top_level }
     requires first { p < task.now.frame.height * task.now.frame.width }
     requires second { q < task.now.frame.height * task.now.frame.width }
     ensures forest { IsParentForest parent.new }
-    ensures met { Meets (problem task.now.frame (level_numbered P.level task.now.samples.now) task.now.least) p q (WasTaken (level_numbered P.level task.now.samples.now) (level_numbered P.level task.now.samples.now p) p q) parent.old (slice_index links.old) (level_numbered P.level out.old) parent.new (slice_index links.new) (level_numbered P.level out.new) }
+    ensures met { Meets (problem task.now.frame (level_seen P.level task.now.turned task.now.maxval task.now.samples.now) task.now.least) p q (WasTaken (level_seen P.level task.now.turned task.now.maxval task.now.samples.now) (level_seen P.level task.now.turned task.now.maxval task.now.samples.now p) p q) parent.old (slice_index links.old) (level_numbered P.level out.old) parent.new (slice_index links.new) (level_numbered P.level out.new) }
 {
-    if is_taken(task.samples, p, q) {
+    if is_taken(task, p, q) {
         join(parent, links, out, task, p, q);
     }
 }
@@ -154,6 +187,7 @@ fn touch_row<P: Pixel>(
     requires links { length links.old ≡ task.now.frame.height * task.now.frame.width }
     requires out { length out.old ≡ task.now.frame.height * task.now.frame.width }
     requires samples { length task.now.samples.now ≡ task.now.frame.height * task.now.frame.width }
+    requires fits { task.now.maxval ≤ P.top_level }
     requires few { task.now.frame.height * task.now.frame.width < 2 ^ 32 }
     requires column { place.x < task.now.frame.width }
     requires row { place.y < task.now.frame.height }
@@ -161,7 +195,7 @@ fn touch_row<P: Pixel>(
     requires down { v ≤ place.y + 1 }
     requires up { place.y ≤ v + 1 }
     ensures forest { IsParentForest parent.new }
-    ensures met { MeetsRow (problem task.now.frame (level_numbered P.level task.now.samples.now) task.now.least) (place.y * task.now.frame.width + place.x) place.x place.y v parent.old (slice_index links.old) (level_numbered P.level out.old) parent.new (slice_index links.new) (level_numbered P.level out.new) }
+    ensures met { MeetsRow (problem task.now.frame (level_seen P.level task.now.turned task.now.maxval task.now.samples.now) task.now.least) (place.y * task.now.frame.width + place.x) place.x place.y v parent.old (slice_index links.old) (level_numbered P.level out.old) parent.new (slice_index links.new) (level_numbered P.level out.new) }
 {
     let p = task.frame.number(place.x, place.y) as u32;
     let middle = task.frame.number(place.x, v) as u32;
@@ -192,11 +226,12 @@ pub(crate) fn touch_around<P: Pixel>(
     requires links { length links.old ≡ task.now.frame.height * task.now.frame.width }
     requires out { length out.old ≡ task.now.frame.height * task.now.frame.width }
     requires samples { length task.now.samples.now ≡ task.now.frame.height * task.now.frame.width }
+    requires fits { task.now.maxval ≤ P.top_level }
     requires few { task.now.frame.height * task.now.frame.width < 2 ^ 32 }
     requires column { place.x < task.now.frame.width }
     requires row { place.y < task.now.frame.height }
     ensures forest { IsParentForest parent.new }
-    ensures met { MeetsAll (problem task.now.frame (level_numbered P.level task.now.samples.now) task.now.least) (place.y * task.now.frame.width + place.x) parent.old (slice_index links.old) (level_numbered P.level out.old) parent.new (slice_index links.new) (level_numbered P.level out.new) }
+    ensures met { MeetsAll (problem task.now.frame (level_seen P.level task.now.turned task.now.maxval task.now.samples.now) task.now.least) (place.y * task.now.frame.width + place.x) parent.old (slice_index links.old) (level_numbered P.level out.old) parent.new (slice_index links.new) (level_numbered P.level out.new) }
 {
     touch_row(parent, links, out, task, place, above(place.y));
     touch_row(parent, links, out, task, place, place.y);

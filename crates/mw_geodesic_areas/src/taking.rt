@@ -3,11 +3,12 @@
 ghost use Rattle.std.specs.Prelude.{◌≡◌, ℕ, ◌+◌, ◌*◌, ◌<◌, ◌≤◌, ◌^◌, length, slice_index};
 ghost use Rattle.mw_geodesic_levels.specs.Levels.{level_numbered};
 ghost use Rattle.mw_geodesic_areas.specs.Problems.{problem};
+ghost use Rattle.mw_geodesic_areas.specs.Seen.{level_seen};
 ghost use Rattle.mw_geodesic_areas.specs.Forests.{IsParentForest, EachByItself, AreRoots};
 ghost use Rattle.mw_geodesic_areas.specs.Chains.{IsLast, AreChained};
 ghost use Rattle.mw_geodesic_areas.specs.Classes.{IsBegun, Standing, HasTaken};
 
-use crate::classes::{Task, touch_around};
+use crate::classes::{Task, sample_seen, touch_around};
 use mw_geodesic_levels::found::{Place, at, put};
 use mw_pixel::Pixel;
 
@@ -37,15 +38,16 @@ fn take<P: Pixel>(
     requires links { length links.old ≡ task.now.frame.height * task.now.frame.width }
     requires out { length out.old ≡ task.now.frame.height * task.now.frame.width }
     requires samples { length task.now.samples.now ≡ task.now.frame.height * task.now.frame.width }
+    requires fits { task.now.maxval ≤ P.top_level }
     requires few { task.now.frame.height * task.now.frame.width < 2 ^ 32 }
     requires within { p < task.now.frame.height * task.now.frame.width }
     ensures forest { IsParentForest parent.new }
-    ensures taken { 1 ≤ level_numbered P.level task.now.samples.now p
-        → Standing (problem task.now.frame (level_numbered P.level task.now.samples.now) task.now.least) (level_numbered P.level task.now.samples.now p) (p + 1) parent.old (slice_index links.old) (level_numbered P.level out.old)
-        → HasTaken (problem task.now.frame (level_numbered P.level task.now.samples.now) task.now.least) p result parent.new (slice_index links.new) (level_numbered P.level out.new) }
+    ensures taken { 1 ≤ level_seen P.level task.now.turned task.now.maxval task.now.samples.now p
+        → Standing (problem task.now.frame (level_seen P.level task.now.turned task.now.maxval task.now.samples.now) task.now.least) (level_seen P.level task.now.turned task.now.maxval task.now.samples.now p) (p + 1) parent.old (slice_index links.old) (level_numbered P.level out.old)
+        → HasTaken (problem task.now.frame (level_seen P.level task.now.turned task.now.maxval task.now.samples.now) task.now.least) p result parent.new (slice_index links.new) (level_numbered P.level out.new) }
 {
     let next = links[p as usize];
-    let sample = at(task.samples, p as usize);
+    let sample = sample_seen(task, p as usize);
     begin(links, out, p, sample, task.least);
     let place = Place {
         x: p % task.frame.width,
@@ -69,12 +71,13 @@ fn take_level<P: Pixel>(
     requires links { length links.old ≡ task.now.frame.height * task.now.frame.width }
     requires out { length out.old ≡ task.now.frame.height * task.now.frame.width }
     requires samples { length task.now.samples.now ≡ task.now.frame.height * task.now.frame.width }
+    requires fits { task.now.maxval ≤ P.top_level }
     requires few { task.now.frame.height * task.now.frame.width < 2 ^ 32 }
     requires level { 1 ≤ level }
-    requires last { IsLast (level_numbered P.level task.now.samples.now) level (task.now.frame.height * task.now.frame.width) head }
-    requires standing { Standing (problem task.now.frame (level_numbered P.level task.now.samples.now) task.now.least) (level + 1) 0 parent.old (slice_index links.old) (level_numbered P.level out.old) }
+    requires last { IsLast (level_seen P.level task.now.turned task.now.maxval task.now.samples.now) level (task.now.frame.height * task.now.frame.width) head }
+    requires standing { Standing (problem task.now.frame (level_seen P.level task.now.turned task.now.maxval task.now.samples.now) task.now.least) (level + 1) 0 parent.old (slice_index links.old) (level_numbered P.level out.old) }
     ensures forest { IsParentForest parent.new }
-    ensures standing { Standing (problem task.now.frame (level_numbered P.level task.now.samples.now) task.now.least) level 0 parent.new (slice_index links.new) (level_numbered P.level out.new) }
+    ensures standing { Standing (problem task.now.frame (level_seen P.level task.now.turned task.now.maxval task.now.samples.now) task.now.least) level 0 parent.new (slice_index links.new) (level_numbered P.level out.new) }
 {
     let mut next = head;
     while next > 0 {
@@ -95,12 +98,13 @@ pub(crate) fn take_all<P: Pixel>(
     requires links { length links.old ≡ task.now.frame.height * task.now.frame.width }
     requires out { length out.old ≡ task.now.frame.height * task.now.frame.width }
     requires samples { length task.now.samples.now ≡ task.now.frame.height * task.now.frame.width }
+    requires fits { task.now.maxval ≤ P.top_level }
     requires few { task.now.frame.height * task.now.frame.width < 2 ^ 32 }
     requires blank { (i : ℕ) → i < length out.old → level_numbered P.level out.old i ≡ 0 }
     requires heads { length heads.now ≡ P.top_level + 1 }
-    requires chained { AreChained (level_numbered P.level task.now.samples.now) P.top_level (task.now.frame.height * task.now.frame.width) (slice_index heads.now) (slice_index links.old) }
+    requires chained { AreChained (level_seen P.level task.now.turned task.now.maxval task.now.samples.now) P.top_level (task.now.frame.height * task.now.frame.width) (slice_index heads.now) (slice_index links.old) }
     ensures forest { IsParentForest parent.new }
-    ensures standing { Standing (problem task.now.frame (level_numbered P.level task.now.samples.now) task.now.least) 1 0 parent.new (slice_index links.new) (level_numbered P.level out.new) }
+    ensures standing { Standing (problem task.now.frame (level_seen P.level task.now.turned task.now.maxval task.now.samples.now) task.now.least) 1 0 parent.new (slice_index links.new) (level_numbered P.level out.new) }
 {
     let mut level = P::TOP.value();
     while level > 0 {

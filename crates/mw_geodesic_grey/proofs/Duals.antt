@@ -30,13 +30,13 @@ rebuilt_height e mask marker made is = ap (λ (t : Picture). t.height) is ∙ (r
 pub cleared_by : (e : List Offset) (f touching made : Picture) → touching ≡ reconstruction e f (border_over 0 f) → made ≡ minus f touching → made ≡ border_cleared e f
 cleared_by e f touching made touching_is made_is = made_is ∙ ap (minus f) touching_is
 
--- ---- from copies of the images
+-- ---- step by step
 
-pub eroded_by : (e : List Offset) (mask marker mask_copy marker_copy below within rebuilt made : Picture) → IsPicture marker → IsPicture mask → SameShape mask marker → marker_copy ≡ marker → mask_copy ≡ mask → below ≡ complement marker_copy → within ≡ complement mask_copy
+pub eroded_by : (e : List Offset) (mask marker below within rebuilt made : Picture) → IsPicture marker → IsPicture mask → SameShape mask marker → below ≡ complement marker → within ≡ complement mask
     → rebuilt ≡ reconstruction e within below → made ≡ complement rebuilt → made ≡ reconstruction_by_erosion e mask marker
-eroded_by e mask marker mask_copy marker_copy below within rebuilt made is_marker is_mask shape marker_is mask_is below_is within_is rebuilt_is made_is =
+eroded_by e mask marker below within rebuilt made is_marker is_mask shape below_is within_is rebuilt_is made_is =
     made_is
-    ∙ ap complement (rebuilt_is ∙ ap (λ (t : Picture). reconstruction e t below) (within_is ∙ ap complement mask_is) ∙ ap (reconstruction e (complement mask)) (below_is ∙ ap complement marker_is))
+    ∙ ap complement (rebuilt_is ∙ ap (λ (t : Picture). reconstruction e t below) within_is ∙ ap (reconstruction e (complement mask)) below_is)
     ∙ sym (dual e mask marker is_marker is_mask shape)
 
 -- ---- holes
@@ -59,10 +59,10 @@ complement-border f =
           ap (λ (t : ℕ). f.maxval - t) here ∙ nothing ∙ sym there
     ])
 
-pub filled_by : (e : List Offset) (f copied below outside made : Picture) → IsPicture f → copied ≡ f → below ≡ complement copied → outside ≡ reconstruction e below (border_over 0 below) → made ≡ complement outside → made ≡ holes_filled e f
-filled_by e f copied below outside made picture copied_is below_is outside_is made_is =
+pub filled_by : (e : List Offset) (f below outside made : Picture) → IsPicture f → below ≡ complement f → outside ≡ reconstruction e below (border_over 0 below) → made ≡ complement outside → made ≡ holes_filled e f
+filled_by e f below outside made picture below_is outside_is made_is =
     made_is
-    ∙ ap complement (outside_is ∙ ap (λ (t : Picture). reconstruction e t (border_over 0 t)) (below_is ∙ ap complement copied_is) ∙ ap (reconstruction e (complement f)) (sym (complement-border f)))
+    ∙ ap complement (outside_is ∙ ap (λ (t : Picture). reconstruction e t (border_over 0 t)) below_is ∙ ap (reconstruction e (complement f)) (sym (complement-border f)))
     ∙ sym (dual e f (border_over f.maxval f) (border_picture f.maxval f picture (omega arith)) picture (record { kind = refl; width = refl; height = refl; maxval = refl }))
 
 -- ---- extrema
@@ -83,9 +83,9 @@ minima_are e h f picture =
     dual e f (raised_by h f) (raised_picture h f) picture (record { kind = refl; width = refl; height = refl; maxval = refl })
     ∙ ap (λ (t : Picture). complement (reconstruction e (complement f) t)) (complement-raised h f)
 
-pub minima_by : (e : List Offset) (h : ℕ) (f copied below cut made : Picture) → IsPicture f → copied ≡ f → below ≡ complement copied → cut ≡ h_maxima e h below → made ≡ complement cut → made ≡ h_minima e h f
-minima_by e h f copied below cut made picture copied_is below_is cut_is made_is =
-    made_is ∙ ap complement (cut_is ∙ ap (h_maxima e h) (below_is ∙ ap complement copied_is)) ∙ sym (minima_are e h f picture)
+pub minima_by : (e : List Offset) (h : ℕ) (f below cut made : Picture) → IsPicture f → below ≡ complement f → cut ≡ h_maxima e h below → made ≡ complement cut → made ≡ h_minima e h f
+minima_by e h f below cut made picture below_is cut_is made_is =
+    made_is ∙ ap complement (cut_is ∙ ap (h_maxima e h) below_is) ∙ sym (minima_are e h f picture)
 
 same_threshold : (a b : Picture) → a.width ≡ b.width → a.height ≡ b.height → ((x y : ℕ) → x < a.width → y < a.height → sample a x y ≡ sample b x y) → threshold 1 a ≡ threshold 1 b
 same_threshold a b wide high same =
@@ -109,11 +109,11 @@ minus-complements f g shape =
     omega (arith, shape.maxval))
 
 -- Minima are the maxima of the complement.
-pub regional_minima_are : (e : List Offset) (f copied below : Picture) → IsPicture f → copied ≡ f → below ≡ complement copied → regional_maxima e below ≡ regional_minima e f
-regional_minima_are e f copied below picture copied_is below_is =
+pub regional_minima_are : (e : List Offset) (f below : Picture) → IsPicture f → below ≡ complement f → regional_maxima e below ≡ regional_minima e f
+regional_minima_are e f below picture below_is =
     let g = h_maxima e 1 (complement f) in
     let g_shape = rebuilt_shape e (complement f) (lowered_by 1 (complement f)) in
-    ap (regional_maxima e) (below_is ∙ ap complement copied_is)
+    ap (regional_maxima e) below_is
     ∙ sym (minus-complements f g (record { kind = g_shape.kind; width = g_shape.width; height = g_shape.height; maxval = g_shape.maxval }))
     ∙ sym (ap (λ (t : Picture). threshold 1 (minus t f)) (minima_are e 1 f picture))
 

@@ -26,11 +26,6 @@ product a b c d p q = cc
 pub plane_picture : {A : Type 0} (level : A → ℕ) (maxval : ℕ) (p : Raster A) → length p.cells ≡ p.height * p.width → All (λ s. level s ≤ maxval) p.cells → IsPicture (picture_by level maxval p)
 plane_picture level maxval p size low = record { size = length-map p.cells level ∙ size; bounded = All-map (λ s. s ≤ maxval) level p.cells low }
 
--- a plane of the same sides and samples
-pub same_plane : {A : Type 0} (p r : Raster A) (w h : ℕ) (items samples : List A) → r ≡ raster w h items → w ≡ p.width → h ≡ p.height → items ≡ samples → samples ≡ p.cells → r ≡ p
-same_plane p r w h items samples is wide high copied same =
-    is ∙ ap (λ (t : ℕ). raster t h items) wide ∙ ap (λ (t : ℕ). raster p.width t items) high ∙ ap (λ (t : List _). raster p.width p.height t) (copied ∙ same)
-
 -- what was written over the samples of a plane of these sides, where they stood in a list of this length
 pub redrawn_by : {A : Type 0} (level : A → ℕ) (maxval w h len : ℕ) (p r : Raster A) (items start made : List A) (value : ℕ → ℕ → ℕ → ℕ) → w ≡ p.width → h ≡ p.height → items ≡ p.cells → len ≡ p.height * p.width → start ≡ items → length start ≡ len
     → length made ≡ length start → r ≡ raster w h (take len (made ++ drop (length made) items))

@@ -8,7 +8,7 @@ ghost use Rattle.mw_geodesic_levels.specs.Pictures.{picture_by};
 
 use crate::marks::places_over;
 use crate::planes::{complement, copy, lowered_by};
-use mw_geodesic_levels::{Neighbours, reconstruction};
+use mw_geodesic_levels::{Neighbours, reconstruct};
 use mw_model::NoMemory;
 use mw_pixel::{Bit, Grey, Plane};
 use std::alloc::Global;
@@ -23,11 +23,30 @@ pub fn h_maxima<P: Grey>(
     ensures { (maxval : ℕ) → IfOk result (λ r. picture_by P.level maxval r ≡ h_maxima (neighbours_of neighbours) h (picture_by P.level maxval image.now)) }
 {
     let marker = lowered_by(copy(alloc, image)?, h);
-    reconstruction(alloc, &marker, image, neighbours)
+    reconstruct(alloc, marker, image, neighbours)
 }
 
 /// The image with each of its basins filled up by h, and without those of a depth up to h. It may want memory
-/// (`NoMemory`).
+/// (`NoMemory`), for one plane and of what `mw_geodesic_levels` takes.
+pub fn fill_basins<P: Grey>(
+    alloc: Global,
+    image: Plane<P>,
+    h: u16,
+    maxval: u16,
+    neighbours: Neighbours,
+) -> Result<Plane<P>, NoMemory>
+    requires top { maxval ≤ P.top_level }
+    requires image { All (λ s. P.level s ≤ maxval) image.cells }
+    ensures { IfOk result (λ r. picture_by P.level maxval r ≡ h_minima (neighbours_of neighbours) h (picture_by P.level maxval image)) }
+{
+    // for the number of samples
+    let _size = image.width();
+    let below = complement(image, maxval);
+    let cut = h_maxima(alloc, &below, h, neighbours)?;
+    Ok(complement(cut, maxval))
+}
+
+/// The same in memory of its own, for which it may want some more (`NoMemory`).
 pub fn h_minima<P: Grey>(
     alloc: Global,
     image: &Plane<P>,
@@ -39,9 +58,8 @@ pub fn h_minima<P: Grey>(
     requires image { All (λ s. P.level s ≤ maxval) image.now.cells }
     ensures { IfOk result (λ r. picture_by P.level maxval r ≡ h_minima (neighbours_of neighbours) h (picture_by P.level maxval image.now)) }
 {
-    let below = complement(copy(alloc, image)?, maxval);
-    let cut = h_maxima(alloc, &below, h, neighbours)?;
-    Ok(complement(cut, maxval))
+    let image = copy(alloc, image)?;
+    fill_basins(alloc, image, h, maxval, neighbours)
 }
 
 /// The plateaus of a level over 0 that have no higher neighbour. It may want memory (`NoMemory`).
@@ -56,7 +74,25 @@ pub fn regional_maxima<P: Grey>(
     places_over(alloc, image, &cut)
 }
 
-/// The plateaus of a level under the maxval that have no lower neighbour. It may want memory (`NoMemory`).
+/// The plateaus of a level under the maxval that have no lower neighbour. It may want memory (`NoMemory`), for one plane and
+/// of what `mw_geodesic_levels` takes.
+pub fn find_minima<P: Grey>(
+    alloc: Global,
+    image: Plane<P>,
+    maxval: u16,
+    neighbours: Neighbours,
+) -> Result<Plane<Bit>, NoMemory>
+    requires top { maxval ≤ P.top_level }
+    requires image { All (λ s. P.level s ≤ maxval) image.cells }
+    ensures { IfOk result (λ r. set_of r ≡ regional_minima (neighbours_of neighbours) (picture_by P.level maxval image)) }
+{
+    // for the number of samples
+    let _size = image.width();
+    let below = complement(image, maxval);
+    regional_maxima(alloc, &below, neighbours)
+}
+
+/// The same beside the image, for which it may want some more memory (`NoMemory`).
 pub fn regional_minima<P: Grey>(
     alloc: Global,
     image: &Plane<P>,
@@ -67,6 +103,6 @@ pub fn regional_minima<P: Grey>(
     requires image { All (λ s. P.level s ≤ maxval) image.now.cells }
     ensures { IfOk result (λ r. set_of r ≡ regional_minima (neighbours_of neighbours) (picture_by P.level maxval image.now)) }
 {
-    let below = complement(copy(alloc, image)?, maxval);
-    regional_maxima(alloc, &below, neighbours)
+    let image = copy(alloc, image)?;
+    find_minima(alloc, image, maxval, neighbours)
 }

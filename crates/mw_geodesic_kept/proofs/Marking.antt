@@ -5,9 +5,7 @@ use Rattle.std.proofs.lemmas.Bool.{cases_lt, cases_eq, false≢true}
 use Rattle.std.proofs.lemmas.List.{get_or-set_same, get_or-set_other}
 use Rattle.mw_model.proofs.mw_facts.Elements.{get_or-replicate_same}
 use Rattle.mw_geodesic_runs.specs.declared.runs.Run.{Run}
-use Rattle.mw_geodesic_runs.specs.declared.regions.Region.{Region}
 use Rattle.mw_geodesic_runs.specs.Runs.{run_numbered}
-use Rattle.mw_geodesic_runs.specs.Gathering.{no_region}
 use Rattle.mw_geodesic_kept.specs.Keeping.{mark_of, HasAsked, AreMarked, AreMarkedLarge}
 
 pub none_marked : (count : ℕ) (marks : List Bool) → marks ≡ replicate count false → (k : ℕ) → mark_of marks k ≡ false
@@ -64,19 +62,19 @@ marked_as Asked Asked' runs numbers n marks to from was = record {
 
 -- ---- by areas
 
-pub large_none : (least : ℕ) (regions : List Region) (marks : List Bool) → AreMarkedLarge least regions 0 marks
-large_none least regions marks k lt = absurd (omega arith)
+pub large_none : (least : ℕ) (areas : List ℕ) (marks : List Bool) → AreMarkedLarge least areas 0 marks
+large_none least areas marks k lt = absurd (omega arith)
 
-pub large_on : (least : ℕ) (regions : List Region) (marks marks' : List Bool) (n : ℕ) (mark : Bool) → n + 1 < length marks → marks' ≡ set marks (n + 1) mark → mark ≡ nat_le least (get_or regions n no_region).area
-    → AreMarkedLarge least regions n marks → AreMarkedLarge least regions (n + 1) marks'
-large_on least regions marks marks' n mark within is mark_is was k lt = elim (cases_eq k n) [
+pub large_on : (least : ℕ) (areas : List ℕ) (marks marks' : List Bool) (n : ℕ) (mark : Bool) → n + 1 < length marks → marks' ≡ set marks (n + 1) mark → mark ≡ nat_le least (get_or areas n 0)
+    → AreMarkedLarge least areas n marks → AreMarkedLarge least areas (n + 1) marks'
+large_on least areas marks marks' n mark within is mark_is was k lt = elim (cases_eq k n) [
   | inl same ↦
       let at : k + 1 ≡ n + 1 = omega arith in
       ap (λ (t : List Bool). mark_of t (k + 1)) is
       ∙ ap (mark_of (set marks (n + 1) mark)) at
       ∙ get_or-set_same marks (n + 1) mark false within
       ∙ mark_is
-      ∙ ap (λ (t : ℕ). nat_le least (get_or regions t no_region).area) (sym same)
+      ∙ ap (λ (t : ℕ). nat_le least (get_or areas t 0)) (sym same)
   | inr ne ↦
       let other : k + 1 ≢ n + 1 = λ e. ne (omega arith) in
       ap (λ (t : List Bool). mark_of t (k + 1)) is ∙ get_or-set_other marks (n + 1) (k + 1) mark false other ∙ was k (omega arith)

@@ -13,7 +13,7 @@ use Rattle.mw_geodesic.proofs.Reconstructed.{rebuilt_shape, rebuilt_size, rebuil
 use Rattle.mw_geodesic_runs.specs.declared.runs.Run.{Run}
 use Rattle.mw_geodesic_runs.specs.Runs.{run_numbered, HasPlace}
 use Rattle.mw_geodesic_runs.specs.Components.{AreComponents}
-use Rattle.mw_geodesic_runs.proofs.Labellings.{held}
+use Rattle.mw_geodesic_runs.proofs.Found.{held}
 use Rattle.mw_geodesic_kept.specs.Keeping.{mark_of, HasPixelOf, AreMarked, IsKeptPart}
 use Rattle.mw_geodesic_kept.proofs.Kept.{one_of, run_place, run_sample}
 

@@ -10,11 +10,10 @@ use Rattle.mw_pixel.specs.Images.{set_of}
 use Rattle.mw_geodesic.specs.Geodesics.{reconstruction}
 use Rattle.mw_geodesic.specs.Components.{large_components}
 use Rattle.mw_geodesic_runs.specs.declared.runs.Run.{Run}
-use Rattle.mw_geodesic_runs.specs.declared.regions.Region.{Region}
 use Rattle.mw_geodesic_runs.specs.Runs.{RunsBefore}
 use Rattle.mw_geodesic_runs.specs.Components.{AreComponents}
-use Rattle.mw_geodesic_runs.specs.Gathering.{AreGathered, AreWide}
-use Rattle.mw_geodesic_runs.proofs.Gathered.{are_wide}
+use Rattle.mw_geodesic_labels.specs.Gathering.{AreAreasOf, AreWide}
+use Rattle.mw_geodesic_labels.proofs.Gathered.{are_wide}
 use Rattle.mw_geodesic_kept.specs.Keeping.{LieInFrame, HasPixelOf, IsAtEdge, AreMarked, AreMarkedLarge, RunsWritten, IsKeptPart, touching_or_not}
 use Rattle.mw_geodesic_kept.proofs.Kept.{lie, written_kept, one_part}
 use Rattle.mw_geodesic_kept.proofs.Rebuilt.{met_part}
@@ -40,10 +39,9 @@ lie_by e f runs numbers count w h bound are wide tall less =
       bounded = l.bounded;
     }
 
--- the numbers are those of regions
-pub lie_among : (e : List Offset) (f : Picture) (runs : List Run) (numbers : List ℕ) (count bound : ℕ) (regions : List Region) → AreComponents e f runs numbers count → AreGathered runs numbers (length runs) regions → bound ≡ length regions + 1
-    → LieInFrame f.width f.height bound runs numbers
-lie_among e f runs numbers count bound regions are gathered is = lie e f runs numbers count bound are (λ i lt. let most = gathered.most i lt in omega arith)
+-- the numbers are up to the count
+pub lie_among : (e : List Offset) (f : Picture) (runs : List Run) (numbers : List ℕ) (count bound : ℕ) → AreComponents e f runs numbers count → bound ≡ count + 1 → LieInFrame f.width f.height bound runs numbers
+lie_among e f runs numbers count bound are is = lie e f runs numbers count bound are (λ i lt. let most = are.most i lt in omega arith)
 
 -- what is written into an empty plane is kept
 pub kept_by : (set blank new : Raster ℕ) (runs : List Run) (numbers : List ℕ) (marks : List Bool) (wanted : Bool) (w h n : ℕ) → blank ≡ raster w h (replicate n 0) → w ≡ set.width → h ≡ set.height → RunsBefore (set_of set) 0 set.height runs
@@ -72,9 +70,10 @@ border_by e f g runs numbers marks marks' wanted count w h are wide tall same ma
 pub wide_by : (e : List Offset) (f : Picture) (runs : List Run) (numbers : List ℕ) (count : ℕ) → f.height * f.width < 2 ^ 32 → AreComponents e f runs numbers count → AreWide runs numbers count
 wide_by e f runs numbers count few are = are_wide e f runs numbers count few are
 
-pub large_by : (e : List Offset) (f g : Picture) (runs : List Run) (numbers : List ℕ) (marks marks' : List Bool) (count : ℕ) (regions regions' : List Region) (least : ℕ) → AreComponents e f runs numbers count → regions' ≡ regions → marks' ≡ marks
-    → AreGathered runs numbers (length runs) regions → AreMarkedLarge least regions' (length regions') marks → IsKeptPart f runs numbers marks' true g → g ≡ large_components e least f
-large_by e f g runs numbers marks marks' count regions regions' least are same_regions same gathered marked part =
-    let marked' : AreMarkedLarge least regions (length regions) marks' =
-    subst (λ (t : List Bool). AreMarkedLarge least regions (length regions) t) (sym same) (subst (λ (t : List Region). AreMarkedLarge least t (length t) marks) same_regions marked) in
-    one_part f g (large_components e least f) runs numbers marks' true are.set are.cut part (large_part e f runs numbers marks' count regions least are gathered marked')
+pub large_by : (e : List Offset) (f g : Picture) (runs : List Run) (numbers areas areas' : List ℕ) (marks marks' : List Bool) (count least : ℕ) → AreComponents e f runs numbers count → areas' ≡ areas → length areas' ≡ count → marks' ≡ marks
+    → AreAreasOf runs numbers (length runs) count areas → AreMarkedLarge least areas' (length areas') marks → IsKeptPart f runs numbers marks' true g → g ≡ large_components e least f
+large_by e f g runs numbers areas areas' marks marks' count least are same_areas size same told marked part =
+    let marked' : AreMarkedLarge least areas count marks' =
+    subst (λ (t : List Bool). AreMarkedLarge least areas count t) (sym same)
+    (subst (λ (t : List ℕ). AreMarkedLarge least t count marks) same_areas (subst (λ (n : ℕ). AreMarkedLarge least areas' n marks) size marked)) in
+    one_part f g (large_components e least f) runs numbers marks' true are.set are.cut part (large_part e f runs numbers areas marks' count least are told marked')

@@ -7,9 +7,7 @@ use Rattle.mw_geodesic.specs.Geodesics.{reconstruction}
 use Rattle.mw_geodesic.specs.Reconstructions.{border_over, border_cleared}
 use Rattle.mw_geodesic.specs.Neighbours.{IsPlace}
 use Rattle.mw_geodesic_runs.specs.declared.runs.Run.{Run}
-use Rattle.mw_geodesic_runs.specs.declared.regions.Region.{Region}
 use Rattle.mw_geodesic_runs.specs.Runs.{run_numbered, HasPlace}
-use Rattle.mw_geodesic_runs.specs.Gathering.{no_region}
 
 -- the mark of a number; behind the end of the list there is none
 abbrev pub mark_of : List Bool → ℕ → Bool
@@ -46,9 +44,9 @@ pub record AreMarked (Asked : Run → Type 0) (runs : List Run) (numbers : List 
   pub back : (k : ℕ) → mark_of marks k ≡ true → HasAsked Asked runs numbers n k
   pub on : (i : ℕ) → i < n → Asked (run_numbered runs i) → mark_of marks (slice_index numbers i) ≡ true
 
--- the marks of the numbers of the first n regions, from 1 up, tell whether each has this area or more
-abbrev pub AreMarkedLarge : ℕ → List Region → ℕ → List Bool → Type 0
-AreMarkedLarge least regions n marks = (k : ℕ) → k < n → mark_of marks (k + 1) ≡ nat_le least (slice_index_or regions k no_region).area
+-- the marks of the numbers of the first n areas, from 1 up, tell whether each is this large or larger
+abbrev pub AreMarkedLarge : ℕ → List ℕ → ℕ → List Bool → Type 0
+AreMarkedLarge least areas n marks = (k : ℕ) → k < n → mark_of marks (k + 1) ≡ nat_le least (slice_index areas k)
 
 -- in those of the first n runs whose numbers have the wanted mark the new picture is as the set, and elsewhere as the old one
 pub record RunsWritten (set : Picture) (runs : List Run) (numbers : List ℕ) (marks : List Bool) (wanted : Bool) (n : ℕ) (old new : Picture) : Type 0 where

@@ -11,7 +11,7 @@ use crate::flipping::flipped;
 use crate::keeping::kept;
 use crate::marks::marks_at_edge;
 use mw_geodesic::laws::duality;
-use mw_geodesic_runs::found::components_of;
+use mw_geodesic_runs::components_of;
 use mw_model::NoMemory;
 use mw_pixel::{Bit, Plane};
 use std::alloc::Global;

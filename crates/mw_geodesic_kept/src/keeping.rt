@@ -5,7 +5,7 @@ ghost use Rattle.mw_pixel.specs.Images.{set_of};
 ghost use Rattle.mw_geodesic_runs.specs.Runs.{RunsBefore};
 ghost use Rattle.mw_geodesic_kept.specs.Keeping.{LieInFrame, RunsWritten, IsKeptPart};
 
-use mw_geodesic_runs::found::Run;
+use mw_geodesic_runs::Run;
 use mw_model::NoMemory;
 use mw_pixel::{Bit, Plane};
 use std::alloc::Global;

@@ -9,20 +9,20 @@ ghost use Rattle.mw_geodesic_kept.specs.Keeping.{AreMarkedLarge};
 use crate::Neighbours;
 use crate::keeping::kept;
 use crate::marks::unmarked;
-use mw_geodesic_runs::Region;
-use mw_geodesic_runs::found::{components_of, gather};
+use mw_geodesic_labels::areas_of;
+use mw_geodesic_runs::components_of;
 use mw_model::NoMemory;
 use mw_pixel::{Bit, Plane};
 use std::alloc::Global;
 
-/// Marks the numbers of the regions with an area of `least` or more; the first region has number 1.
-fn marks_large(alloc: Global, regions: &[Region], least: u32) -> Result<Vec<bool>, NoMemory>
-    ensures size { IfOk result (λ r. vec_len r ≡ length regions.now + 1) }
-    ensures marked { IfOk result (λ r. AreMarkedLarge least regions.now (length regions.now) r.items) }
+/// Marks the numbers of the components with an area of `least` or more; the first area is that of number 1.
+fn marks_large(alloc: Global, areas: &[u32], least: u32) -> Result<Vec<bool>, NoMemory>
+    ensures size { IfOk result (λ r. vec_len r ≡ length areas.now + 1) }
+    ensures marked { IfOk result (λ r. AreMarkedLarge least areas.now (length areas.now) r.items) }
 {
-    let mut marks = unmarked(alloc, regions.len() + 1)?;
-    for k in 0..regions.len() {
-        marks[k + 1] = least <= regions[k].area;
+    let mut marks = unmarked(alloc, areas.len() + 1)?;
+    for k in 0..areas.len() {
+        marks[k + 1] = least <= areas[k];
     }
     Ok(marks)
 }
@@ -41,8 +41,8 @@ pub fn large_components_of_set(
     let found = components_of(alloc, set.words(), neighbours)?;
     let runs = found.runs.as_slice();
     let numbers = found.numbers.as_slice();
-    let regions = gather(alloc, runs, numbers, found.count)?;
-    let marks = marks_large(alloc, &regions, least)?;
+    let areas = areas_of(alloc, runs, numbers, found.count)?;
+    let marks = marks_large(alloc, &areas, least)?;
     let large = kept(alloc, set, runs, numbers, &marks, true)?;
     Ok(large)
 }

@@ -8,7 +8,7 @@
 //!
 //! The set is cut to runs with the numbers of their components. Each number that is asked for is marked, and then the runs
 //! whose numbers have the mark are written into an empty plane, 64 pixels at a time. So beside what the runs take
-//! (`mw_geodesic_runs`) there is a byte for each component, and for holes two planes more.
+//! (`mw_geodesic_runs`) there is a byte for each component, for area openings four more, and for holes two planes more.
 #![tactic(auto)]
 
 mod border;

@@ -4,7 +4,7 @@ ghost use Rattle.std.specs.Prelude.{◌≡◌, ℕ, ◌+◌, ◌<◌, ◌≤◌,
 ghost use Rattle.mw_pixel.specs.Images.{set_of};
 ghost use Rattle.mw_geodesic_kept.specs.Keeping.{mark_of, LieInFrame, HasPixelOf, IsAtEdge, AreMarked};
 
-use mw_geodesic_runs::found::{Run, next_place};
+use mw_geodesic_runs::{Run, next_place};
 use mw_model::NoMemory;
 use mw_pixel::words::stride;
 use mw_pixel::{Bit, Plane};

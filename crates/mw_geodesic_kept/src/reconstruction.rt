@@ -8,7 +8,7 @@ ghost use Rattle.mw_geodesic.specs.Neighbours.{neighbours_of};
 use crate::Neighbours;
 use crate::keeping::kept;
 use crate::marks::marks_met;
-use mw_geodesic_runs::found::components_of;
+use mw_geodesic_runs::components_of;
 use mw_model::NoMemory;
 use mw_pixel::{Bit, Plane};
 use std::alloc::Global;

@@ -1,8 +1,8 @@
 -- what other crates may cite
 pub mod Nearness
+pub mod Rebuilt
 -- the crate's own
 mod Blocks
 mod Raises
-mod Rebuilt
 mod Rooms
 mod Turned

@@ -4,7 +4,7 @@ use Rattle.std.proofs.lemmas.List.{length-map}
 use Rattle.mw_model.specs.declared.offsets.Offset.{Offset}
 use Rattle.mw_model.specs.declared.shapes.Kind.TheVariants as kind
 use Rattle.mw_model.specs.Pictures.{Picture, picture, sample}
-use Rattle.mw_model.specs.Rasters.{Raster}
+use Rattle.mw_model.specs.Rasters.{Raster, raster}
 use Rattle.mw_model.proofs.ImagePlaces.{by_places}
 use Rattle.mw_geodesic.specs.Geodesics.{reconstruction}
 use Rattle.mw_geodesic.proofs.Geodesic.{spread_shape, spread_above, sample-meet, reconstruction_closed, only_reconstruction}
@@ -90,3 +90,8 @@ rebuilt_planes level maxval frame marker mask r element ks ms rs elements wide h
 -- as many samples as another plane of the same sides
 pub same_size : (a b c d n : ℕ) → n ≡ a * b → a ≡ c → b ≡ d → n ≡ c * d
 same_size a b c d n is p q = cc
+
+-- a plane of the same sides and samples
+pub same_plane : {A : Type 0} (p r : Raster A) (w h : ℕ) (items samples : List A) → r ≡ raster w h items → w ≡ p.width → h ≡ p.height → items ≡ samples → samples ≡ p.cells → r ≡ p
+same_plane p r w h items samples is wide high copied same =
+    is ∙ ap (λ (t : ℕ). raster t h items) wide ∙ ap (λ (t : ℕ). raster p.width t items) high ∙ ap (λ (t : List _). raster p.width p.height t) (copied ∙ same)

@@ -55,3 +55,15 @@ pub offered : (frame : Frame) (mask f g : ℕ → ℕ) (i s before after : ℕ) 
 offered frame mask f g i s before after can put one =
     let less = room_less mask f g (frame.height * frame.width) i s can.inside can.more can.masked put in
     record { raised = risen can put; cheaper = omega arith }
+
+-- fewer places wait than before
+pub flooded_less : {frame : Frame} {mask f g : ℕ → ℕ} {a b c : ℕ} → IsFlooded frame mask f a g b → c ≤ b → IsFlooded frame mask f a g c
+flooded_less flooded less =
+    let cheaper = flooded.cheaper in
+    record { raised = flooded.raised; cheaper = omega arith }
+
+-- what is raised is no dearer
+pub flooded_by : (frame : Frame) (mask f g : ℕ → ℕ) (before after : ℕ) → IsRaised frame mask f g → after ≤ before → IsFlooded frame mask f before g after
+flooded_by frame mask f g before after raised less =
+    let rooms = room_no_more mask f g (frame.height * frame.width) raised.over in
+    record { raised = raised; cheaper = omega arith }

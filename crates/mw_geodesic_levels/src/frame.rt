@@ -35,6 +35,7 @@ impl Frame {
         requires { number < self.height * self.width }
         ensures column { result.x < self.width }
         ensures row { result.y < self.height }
+        ensures value { number ≡ result.y * self.width + result.x }
     {
         Place {
             x: number % self.width,

@@ -9,7 +9,7 @@ use crate::frame::{Frame, Place};
 use crate::near::{above, below, highest, reach};
 use crate::queue::LevelQueue;
 use crate::samples::{at, is_below, lesser, put};
-use crate::sweeps::{sweep_down, sweep_up};
+use crate::sweeps::sweep_all;
 use crate::waiting::fill;
 use mw_pixel::Pixel;
 
@@ -217,7 +217,7 @@ fn first_rise<P: Pixel>(samples: &[P], mask: &[P], frame: Frame) -> Option<Rise<
     None
 }
 
-/// Raises by two sweeps, and then from the places that would raise one still.
+/// Raises by sweeps, and then from the places that would raise one still.
 pub(crate) fn raise_all<P: Pixel>(
     samples: &mut [P],
     queue: &mut LevelQueue,
@@ -228,8 +228,7 @@ pub(crate) fn raise_all<P: Pixel>(
     requires mask { length mask.now ≡ frame.height * frame.width }
     ensures { IsRaised frame (level_numbered P.level mask.now) (level_numbered P.level samples.old) (level_numbered P.level samples.new) }
 {
-    sweep_down(samples, mask, frame);
-    sweep_up(samples, mask, frame);
+    sweep_all(samples, mask, frame);
     fill(queue, samples, mask, frame);
     flood(samples, queue, mask, frame);
 }

@@ -16,8 +16,8 @@ use mw_model::NoMemory;
 use mw_pixel::{Grey, Pixel, Plane};
 use std::alloc::Global;
 
-/// For so many pixels there is room for one place that waits.
-const PIXELS_AN_ENTRY: usize = 2;
+/// So many entries there is room for, however few pixels there are.
+const LEAST: usize = 4096;
 
 /// Cuts samples to those of the mask.
 fn cut<P: Pixel>(samples: &mut [P], mask: &[P])
@@ -42,6 +42,15 @@ fn greatest<P: Pixel>(samples: &[P]) -> u16 {
     most.value()
 }
 
+/// For how many entries the queue of so many pixels has room: where samples have two bytes it has half of it, so that planes
+/// and queue together take as much as with one byte.
+fn room_of<P: Pixel>(pixels: usize) -> usize {
+    if P::TOP.value() > u16::from(u8::MAX) {
+        return pixels / 2 + LEAST;
+    }
+    pixels
+}
+
 /// Makes the reconstruction of the marker that the samples are, row by row.
 fn rebuild_rows<P: Pixel>(
     alloc: Global,
@@ -55,7 +64,7 @@ fn rebuild_rows<P: Pixel>(
 {
     cut(samples, mask);
     let levels = usize::from(greatest(samples)) + 1;
-    let mut queue = LevelQueue::new(alloc, levels, samples.len() / PIXELS_AN_ENTRY)?;
+    let mut queue = LevelQueue::new(alloc, levels, room_of::<P>(samples.len()))?;
     raise_all(samples, &mut queue, mask, frame);
     settle(samples, &mut queue, mask, frame);
     Ok(())
@@ -92,8 +101,30 @@ fn rebuild<P: Pixel>(
     Ok(())
 }
 
-/// The reconstruction of a mask from a marker of its size, by dilation. It may want memory (`NoMemory`), before it begins:
-/// for the result, four bytes for each level up to the greatest of the marker and of the mask, and four for each pixel.
+/// The reconstruction of a mask from a marker of its size, by dilation, in the memory of the marker. It may want memory
+/// (`NoMemory`), before it begins: four bytes for each level up to the greatest of the marker and of the mask, for each pixel
+/// four where samples have one byte and two where they have two, and 64 KiB.
+pub fn reconstruct<P: Grey>(
+    alloc: Global,
+    marker: Plane<P>,
+    mask: &Plane<P>,
+    neighbours: Neighbours,
+) -> Result<Plane<P>, NoMemory>
+    requires width { marker.width ≡ mask.now.width }
+    requires height { marker.height ≡ mask.now.height }
+    ensures { (maxval : ℕ) → IfOk result (λ r. picture_by P.level maxval r ≡ reconstruction (neighbours_of neighbours) (picture_by P.level maxval mask.now) (picture_by P.level maxval marker)) }
+{
+    let frame = Frame {
+        width: mask.width(),
+        height: mask.height(),
+        corners: corners(neighbours),
+    };
+    let mut samples = marker.into_samples();
+    rebuild(alloc, samples.as_mut_slice(), mask.samples(), frame)?;
+    Ok(Plane::new(frame.width, frame.height, samples))
+}
+
+/// The same in memory of its own, for which it may want some more (`NoMemory`).
 pub fn reconstruction<P: Grey>(
     alloc: Global,
     marker: &Plane<P>,
@@ -104,12 +135,7 @@ pub fn reconstruction<P: Grey>(
     requires height { marker.now.height ≡ mask.now.height }
     ensures { (maxval : ℕ) → IfOk result (λ r. picture_by P.level maxval r ≡ reconstruction (neighbours_of neighbours) (picture_by P.level maxval mask.now) (picture_by P.level maxval marker.now)) }
 {
-    let frame = Frame {
-        width: mask.width(),
-        height: mask.height(),
-        corners: corners(neighbours),
-    };
-    let mut samples = Vec::from_slice(alloc, marker.samples())?;
-    rebuild(alloc, samples.as_mut_slice(), mask.samples(), frame)?;
-    Ok(Plane::new(frame.width, frame.height, samples))
+    let (width, height) = (marker.width(), marker.height());
+    let samples = Vec::from_slice(alloc, marker.samples())?;
+    reconstruct(alloc, Plane::new(width, height, samples), mask, neighbours)
 }

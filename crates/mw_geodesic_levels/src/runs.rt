@@ -3,14 +3,15 @@
 //! What comes of a place depends on the place before it, so a loop over the columns takes one after another. Here a block of
 //! 64 of them is raised by doubling (after Hillis and Steele, Data Parallel Algorithms, 1986): each place from the one before
 //! it, then from two places before it, then from four. What reaches a place from so many places before it is cut to the least
-//! of the masks on the way, and those are made by doubling too. Seven such steps go by vectors.
+//! of the masks on the way, and those are made by doubling too. Seven such steps go by vectors. A block in which no place would
+//! be raised by the one before it stays as it is; after the first sweeps most are so.
 
 ghost use Rattle.std.specs.Prelude.{◌≡◌, ℕ, ◌+◌, ◌*◌, ◌<◌, ◌≤◌, ◌^◌, length, false, true};
 ghost use Rattle.mw_geodesic_levels.specs.Levels.{level_numbered, IsRaised};
 ghost use Rattle.mw_geodesic_levels.specs.Runs.{along, column, IsUnderRun};
 
 use crate::frame::{Frame, Place};
-use crate::samples::{at, greater, lesser, put};
+use crate::samples::{at, greater, is_below, lesser, put};
 use crate::sweeps::pull;
 use mw_pixel::Pixel;
 
@@ -150,6 +151,78 @@ fn run_block<P: Pixel>(mask: &[P], samples: &mut [P], frame: Frame, y: u32, p: u
     store(samples, &made, start, forward);
 }
 
+/// Whether any of these samples would be raised by those before them.
+#[inline(never)]
+fn any_rises<P: Pixel>(samples: &[P], before: &[P], mask: &[P]) -> bool
+    requires before { length before.now ≡ length samples.now }
+    requires mask { length mask.now ≡ length samples.now }
+{
+    let mut any = false;
+    for i in 0..samples.len() {
+        any |= is_below(samples[i], lesser(before[i], mask[i]));
+    }
+    any
+}
+
+/// Whether any sample of a block would be raised by the one before it. Of the first block it says so unseen.
+#[inline(always)]
+fn rises_in_block<P: Pixel>(
+    samples: &[P],
+    mask: &[P],
+    frame: Frame,
+    y: u32,
+    p: u32,
+    forward: bool,
+) -> bool
+    requires size { length samples.now ≡ frame.height * frame.width }
+    requires mask { length mask.now ≡ frame.height * frame.width }
+    requires row { y < frame.height }
+    requires columns { p < frame.width }
+{
+    let count = samples.len();
+    let first = frame.number(column_of(frame, p, forward), y);
+    let start = if forward {
+        first
+    } else {
+        first.saturating_sub(BLOCK - 1)
+    };
+    let before = if forward {
+        first.saturating_sub(1)
+    } else {
+        start + 1
+    };
+    if p == 0 || count - start < BLOCK || count - before < BLOCK {
+        return true;
+    }
+    any_rises(
+        &samples[start..start + BLOCK],
+        &samples[before..before + BLOCK],
+        &mask[start..start + BLOCK],
+    )
+}
+
+/// Raises the samples of a block, if any would be raised by the one before it.
+#[inline(always)]
+fn run_in_block<P: Pixel>(
+    mask: &[P],
+    samples: &mut [P],
+    frame: Frame,
+    y: u32,
+    p: u32,
+    forward: bool,
+)
+    requires mask { length mask.now ≡ frame.height * frame.width }
+    requires size { length samples.old ≡ frame.height * frame.width }
+    requires row { y < frame.height }
+    requires wide { 128 ≤ frame.width }
+    requires columns { p + 64 ≤ frame.width }
+    ensures { IsRaised frame (level_numbered P.level mask.now) (level_numbered P.level samples.old) (level_numbered P.level samples.new) }
+{
+    if rises_in_block(samples, mask, frame, y, p, forward) {
+        run_block(mask, samples, frame, y, p, forward);
+    }
+}
+
 /// Raises the samples of all whole blocks of a row.
 #[inline(always)]
 fn run_blocks<P: Pixel>(samples: &mut [P], mask: &[P], frame: Frame, y: u32, forward: bool)
@@ -159,7 +232,7 @@ fn run_blocks<P: Pixel>(samples: &mut [P], mask: &[P], frame: Frame, y: u32, for
     ensures { IsRaised frame (level_numbered P.level mask.now) (level_numbered P.level samples.old) (level_numbered P.level samples.new) }
 {
     for block in 0..whole_blocks(frame) {
-        run_block(mask, samples, frame, y, block * BLOCK as u32, forward);
+        run_in_block(mask, samples, frame, y, block * BLOCK as u32, forward);
     }
 }
 

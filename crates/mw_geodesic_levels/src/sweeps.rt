@@ -7,7 +7,11 @@ use crate::frame::{Frame, Place};
 use crate::near::{above, below};
 use crate::runs::{run_left, run_right};
 use crate::samples::{at, greater, lesser, put};
+use crate::waiting::many_wait;
 use mw_pixel::Pixel;
+
+/// At most so many pairs of sweeps are made.
+const PAIRS: u32 = 4;
 
 /// Raises the sample with a number to another, within the mask, and tells which one it is then.
 #[inline(always)]
@@ -141,5 +145,28 @@ pub(crate) fn sweep_up<P: Pixel>(samples: &mut [P], mask: &[P], frame: Frame)
         let y = frame.height - 1 - done;
         lift(samples, mask, frame, y, below(frame, y));
         run_left(samples, mask, frame, y);
+    }
+}
+
+/// Raises all samples by a pair of sweeps, the first or where many places would raise one still.
+fn sweep_again<P: Pixel>(samples: &mut [P], mask: &[P], frame: Frame, first: bool)
+    requires size { length samples.old ≡ frame.height * frame.width }
+    requires mask { length mask.now ≡ frame.height * frame.width }
+    ensures { IsRaised frame (level_numbered P.level mask.now) (level_numbered P.level samples.old) (level_numbered P.level samples.new) }
+{
+    if first || many_wait(samples, mask, frame) {
+        sweep_down(samples, mask, frame);
+        sweep_up(samples, mask, frame);
+    }
+}
+
+/// Raises all samples by pairs of sweeps, until few places would raise one still.
+pub(crate) fn sweep_all<P: Pixel>(samples: &mut [P], mask: &[P], frame: Frame)
+    requires size { length samples.old ≡ frame.height * frame.width }
+    requires mask { length mask.now ≡ frame.height * frame.width }
+    ensures { IsRaised frame (level_numbered P.level mask.now) (level_numbered P.level samples.old) (level_numbered P.level samples.new) }
+{
+    for pair in 0..PAIRS {
+        sweep_again(samples, mask, frame, pair == 0);
     }
 }

@@ -14,6 +14,15 @@ use mw_pixel::Pixel;
 /// How many places are looked at at once.
 const BLOCK: usize = 64;
 
+/// One block of so many tells whether many places wait; of an odd number, so that it is not always the same columns.
+const APART: usize = 17;
+
+/// Frames of fewer columns are narrow.
+const NARROW: u32 = 64;
+
+/// One place of so many that waits is few.
+const FEW: usize = 512;
+
 /// Marks the places whose samples would raise the other ones, within the mask of those.
 #[inline(always)]
 fn mark<P: Pixel>(marks: &mut [bool], samples: &[P], others: &[P], mask: &[P])
@@ -63,6 +72,34 @@ fn marks_of<P: Pixel>(samples: &[P], mask: &[P], frame: Frame, start: usize) -> 
         mark_ahead(&mut marks, samples, mask, start, width + 1);
     }
     marks
+}
+
+/// How many places of a block are marked.
+fn count_marks(marks: &[bool; BLOCK]) -> usize {
+    let mut count: usize = 0;
+    for i in 0..BLOCK {
+        if marks[i] {
+            count = count.saturating_add(1);
+        }
+    }
+    count
+}
+
+/// Whether so many places would raise one near them that another pair of sweeps costs less than to let them wait: more than one
+/// of `FEW` of those that are looked at. In a narrow frame sweeps cost more than they spare.
+pub(crate) fn many_wait<P: Pixel>(samples: &[P], mask: &[P], frame: Frame) -> bool
+    requires { length samples.now ≡ length mask.now }
+{
+    if frame.width < NARROW {
+        return false;
+    }
+    let blocks = samples.len().div_ceil(BLOCK * APART);
+    let mut count: usize = 0;
+    for k in 0..blocks {
+        let marks = marks_of(samples, mask, frame, k * (BLOCK * APART));
+        count = count.saturating_add(count_marks(&marks));
+    }
+    count > blocks * BLOCK / FEW
 }
 
 /// Lets the marked places of a block wait.

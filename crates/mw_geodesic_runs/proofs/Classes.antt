@@ -174,6 +174,24 @@ pub linked_up : (old mid p : List ℕ) (a b r s : ℕ) → r < length p → get_
     → ((f : ℕ → ℕ) → Respects mid f → f s ≡ f b) → HasJoined old a b (set p r s)
 linked_up old mid p a b r s lt root first second at_a at_b = joined_from old mid p (set p r s) a b r s first second at_a at_b (turned p (set p r s) s r (linked p s r lt root))
 
+-- both have one parent
+pub joined_already : (p : List ℕ) (a b : ℕ) → a < length p → b < length p → get_or p b 0 ≡ get_or p a 0 → HasJoined p a b p
+joined_already p a b lt lt' same = record {
+  back = λ f respects. respects;
+  one = λ f respects. sym (respects.same a lt) ∙ ap f (sym same) ∙ respects.same b lt';
+  on = λ f respects is. respects;
+}
+
+-- the second is a root, and takes the parent of the first
+pub adopted : (p : List ℕ) (a b c : ℕ) → a < b → b < length p → get_or p a 0 ≡ c → get_or p b 0 ≡ b → HasJoined p a b (set p b c)
+adopted p a b c less lt is root = record {
+  back = λ f respects. set_back p b c f respects (ap f root);
+  one = λ f respects.
+      let here : f (get_or p a 0) ≡ f a = ap f (sym (get_or-set_other p b a c 0 (λ e. absurd (omega arith)))) ∙ respects.same a (omega (arith, length-set p b c)) in
+      sym here ∙ ap f is ∙ set_here p b c f lt respects;
+  on = λ f respects same. set_on p b c f lt respects (ap f (sym is) ∙ respects.same a (omega arith) ∙ same);
+}
+
 pub joined_if : (P : Type 0) (old new : List ℕ) (a b : ℕ) → P → HasJoined old a b new → HasJoinedIf P old a b new
 joined_if P old new a b holds joined = record {
   back = joined.back;

@@ -6,6 +6,8 @@ use Rattle.mw_model.specs.Pictures.{Picture, sample}
 use Rattle.mw_pixel.specs.mw_pixel_words.Packed.{bit_of}
 use Rattle.mw_geodesic_runs.specs.declared.runs.Run.{Run}
 use Rattle.mw_geodesic_runs.specs.Runs.{no_run, run_numbered, HasPlace, IsRunOfSet, Precedes, InSomeRun, EndsBefore, tally, left_of, begin_at, begun, run_count, RunsBefore}
+use Rattle.mw_geodesic_runs.specs.Changes.{IsNextChange}
+use Rattle.mw_geodesic_runs.proofs.ChangedPlaces.{stretch}
 use Rattle.mw_geodesic_runs.proofs.Tallies.{tally_none, tally_more, tally_one, next_tally, left_is, left_none, left_after, left_same, tally_same}
 
 -- the words hold row y
@@ -204,7 +206,7 @@ pushed f x end y runs r row first last inside some within run one left was =
         let lt = held.within in
         record { at = held.at; within = omega (arith, length_push runs r); holds = subst (λ (t : Run). HasPlace t u v) (sym (run_before runs r held.at lt)) held.holds }
 
-pub cutting_on : (f : Picture) (words : List ℕ) (x end next y : ℕ) (runs : List Run) (r : Run) → HoldRow f y words → r.row ≡ y → r.first ≡ x → r.end ≡ end → Cutting f words x y runs → x < 64 * length words → x ≤ end
+cutting_on : (f : Picture) (words : List ℕ) (x end next y : ℕ) (runs : List Run) (r : Run) → HoldRow f y words → r.row ≡ y → r.first ≡ x → r.end ≡ end → Cutting f words x y runs → x < 64 * length words → x ≤ end
     → end ≤ 64 * length words → ((u : ℕ) → x ≤ u → u < end → bit_of words u ≡ 1) → (end < 64 * length words → bit_of words end ≡ 0)
     → end ≤ next → next ≤ 64 * length words → ((u : ℕ) → end ≤ u → u < next → bit_of words u ≡ 0) → (next < 64 * length words → bit_of words next ≡ 1) → Cutting f words next y (runs ++ r ∷ [])
 cutting_on f words x end next y runs r row at first last was inside from within ones stops le most zeros begins =
@@ -238,6 +240,21 @@ cutting_on f words x end next y runs r row at first last was inside from within 
           let here : bit_of words next ≡ 0 = ap (bit_of words) same ∙ none in
           absurd (omega arith)
     ]
+
+-- the next run by the two changes that come next
+pub cutting_by : (f : Picture) (words : List ℕ) (x end next y : ℕ) (runs : List Run) (r : Run) → HoldRow f y words → r.row ≡ y → r.first ≡ x → r.end ≡ end → Cutting f words x y runs → x < 64 * length words
+    → IsNextChange words x end → IsNextChange words end next → Cutting f words next y (runs ++ r ∷ [])
+cutting_by f words x end next y runs r row at first last was inside ends begins =
+    let ones = stretch words x end 1 (was.begins inside) ends in
+    let most = begins.within in
+    cutting_on f words x end next y runs r row at first last was inside ends.from ends.within ones.same ones.other begins.from begins.within
+    (λ u from to. (stretch words end next 0 (ones.other (omega arith)) begins).same u from to)
+    (λ lt. let from = begins.from in (stretch words end next 0 (ones.other (omega arith)) begins).other lt)
+
+pub end_in_row : (f : Picture) (words : List ℕ) (x end y : ℕ) (runs : List Run) → HoldRow f y words → Cutting f words x y runs → x < 64 * length words → IsNextChange words x end → end ≤ f.width
+end_in_row f words x end y runs row was inside ends =
+    let ones = stretch words x end 1 (was.begins inside) ends in
+    (next_run f words x end y row (was.begins inside) inside ends.from ends.within ones.same ones.other).within
 
 -- there is room for the run that begins
 pub room_left : (f : Picture) (words : List ℕ) (x y : ℕ) (runs : List Run) → HoldRow f y words → x < 64 * length words → y < f.height → Cutting f words x y runs → length runs < run_count f

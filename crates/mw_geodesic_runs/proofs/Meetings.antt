@@ -29,6 +29,17 @@ ends_itself : (a : Run) → EndsFirst a a → ⊥
 ends_itself a (inl above) = omega arith
 ends_itself a (inr same) = omega (arith, same.0)
 
+-- a run does not touch itself
+pub touching_apart : (reach : ℕ) (runs : List Run) (i j : ℕ) → i ≤ j → Touches reach (run_numbered runs i) (run_numbered runs j) → i < j
+touching_apart reach runs i j le t = elim (cases_lt i j) [
+  | inl less ↦ less
+  | inr past ↦
+      let same : i ≡ j = omega arith in
+      let row : (run_numbered runs i).row ≡ (run_numbered runs j).row = ap (λ (k : ℕ). (run_numbered runs k).row) same in
+      let below = t.below in
+      absurd (omega arith)
+]
+
 agree_first : (reach : ℕ) (runs : List Run) (i j : ℕ) (f : ℕ → ℕ) → reach ≤ 1 → AreInOrder runs → EndsFirst (run_numbered runs i) (run_numbered runs j) → Agree reach runs i j f
     → (Touches reach (run_numbered runs i) (run_numbered runs j) → f i ≡ f j) → Agree reach runs (i + 1) j f
 agree_first reach runs i j f low order ends was here = record {

@@ -1,7 +1,5 @@
 pub mod Runs
+pub mod Changes
 pub mod Forests
 pub mod Touching
 pub mod Components
-pub mod Painting
-pub mod Regions
-pub mod Gathering

@@ -54,3 +54,25 @@ pub(crate) fn unite(parent: &mut [u32], a: u32, b: u32)
         parent[root as usize] = other;
     }
 }
+
+/// The same of two numbers of which the second is no less: where that is still a root, it takes the parent of the first, and
+/// where both have one parent, nothing is to be done. So most numbers find no root.
+#[inline(always)]
+pub(crate) fn join(parent: &mut [u32], a: u32, b: u32)
+    requires forest { IsForest parent.old }
+    requires order { a < b }
+    requires within { b < length parent.old }
+    ensures forest { IsForest parent.new }
+    ensures joined { HasJoined parent.old a b parent.new }
+{
+    let above = parent[a as usize];
+    let own = parent[b as usize];
+    if own == above {
+        return;
+    }
+    if own == b {
+        parent[b as usize] = above;
+    } else {
+        unite(parent, a, b);
+    }
+}

@@ -6,6 +6,7 @@ ghost use Rattle.mw_pixel.specs.Images.{set_of};
 ghost use Rattle.mw_geodesic_runs.specs.Runs.{RunsBefore, begin_at, run_count, tally};
 ghost use Rattle.mw_pixel.specs.mw_pixel_words.Packed.{bit_of};
 
+use crate::changes::{changes_behind, next_change};
 use crate::scanning::next_place;
 use mw_model::NoMemory;
 use mw_pixel::Words;
@@ -32,14 +33,15 @@ fn cut_row(set: &Words, y: u32, runs: &mut Vec<Run>)
     let words = set.row(y);
     let limit = 64 * words.len();
     let mut at = next_place(words, 0, true);
+    let mut left = changes_behind(words, at);
     'cuts: while at < limit {
-        let end = next_place(words, at, false);
+        let end = next_change(words, at, &mut left);
         runs.push_reserved(Run {
             row: y,
             first: at as u16,
             end: end as u16,
         });
-        at = next_place(words, end, true);
+        at = next_change(words, end, &mut left);
     }
 }
 
@@ -56,7 +58,7 @@ fn begin_bits(word: u64, last: u64) -> u64
 
 /// The last bit of a word.
 #[inline(always)]
-fn last_bit(word: u64) -> u64
+pub(crate) fn last_bit(word: u64) -> u64
     ensures { result ≡ bit_at word 63 }
 {
     word >> 63

@@ -5,7 +5,7 @@ ghost use Rattle.mw_geodesic_runs.specs.Runs.{run_numbered, AreInOrder};
 ghost use Rattle.mw_geodesic_runs.specs.Forests.{IsForest, AllAlone, HasJoinedIf};
 ghost use Rattle.mw_geodesic_runs.specs.Touching.{Touches, EndsFirst, Agree, IsForestOf};
 
-use crate::forest::unite;
+use crate::forest::join;
 use crate::runs::Run;
 
 /// Whether the second run lies in the row below the first and touches it.
@@ -51,12 +51,13 @@ fn unite_touching(parent: &mut [u32], runs: &[Run], i: usize, j: usize, reach: u
     requires size { length runs.now ≡ length parent.old }
     requires first { i < length runs.now }
     requires second { j < length runs.now }
+    requires order { i ≤ j }
     requires reach { reach ≤ 1 }
     ensures forest { IsForest parent.new }
     ensures joined { HasJoinedIf (Touches reach (run_numbered runs.now i) (run_numbered runs.now j)) parent.old i j parent.new }
 {
     if touch(runs[i], runs[j], reach) {
-        unite(parent, i as u32, j as u32);
+        join(parent, i as u32, j as u32);
     }
 }
 

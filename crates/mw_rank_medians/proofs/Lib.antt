@@ -1,13 +1,16 @@
+-- what other crates may cite
+pub mod Sums
+pub mod Squares
+pub mod Medians
+pub mod Beyond
 -- the crate's own
 mod Tests
 mod Lanes
 mod Further
 mod Orders
 mod Merges
-mod Sums
 mod Columns
-mod Squares
-mod Medians
 mod Joined
 mod Gathered
-mod Beyond
+-- what lower crates offer
+pub use Rattle.mw_rank.proofs as mw_rank

@@ -20,5 +20,12 @@ mod vectors_16;
 mod vectors_8;
 
 pub use mw_model::NoMemory;
+pub use rows::{Sheet, medians_of_rows};
+pub use square::square_of;
 pub use tiles::median_of_grey;
 pub use vectors::Vectored;
+
+// What lower crates offer, for the crates above.
+pub mod pixel {
+    pub use mw_rank::pixel::{Grey, Pixel, copies};
+}

@@ -17,7 +17,7 @@ use mw_rank::pixel::Pixel;
 
 /// Samples in rows of one length, from a place on.
 #[derive(Clone, Copy)]
-pub(crate) struct Sheet<'a, P: Pixel> {
+pub struct Sheet<'a, P: Pixel> {
     pub samples: &'a [P],
     pub from: usize,
     pub stride: usize,
@@ -162,7 +162,7 @@ fn medians_of_25<P: Vectored>(out: &mut [P], sheet: Sheet<P>)
 }
 
 /// The medians under squares of that side.
-pub(crate) fn medians_of_rows<P: Vectored>(out: &mut [P], sheet: Sheet<P>, side: u32, k: u32)
+pub fn medians_of_rows<P: Vectored>(out: &mut [P], sheet: Sheet<P>, side: u32, k: u32)
     requires wide { P.WIDTH ≤ length out.old }
     requires inside { sheet.from + side * sheet.stride + length out.old + side ≤ length sheet.samples.now + sheet.stride + 1 }
     requires median { IsMedian side k }

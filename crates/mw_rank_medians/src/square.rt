@@ -27,7 +27,7 @@ fn stands_at(first: Offset, offset: Offset, column: usize, row: usize) -> bool
 }
 
 /// The first offset, where the offsets are a square of that side, row after row.
-pub(crate) fn square_of(offsets: &[Offset], side: usize) -> Option<Offset>
+pub fn square_of(offsets: &[Offset], side: usize) -> Option<Offset>
     requires some { 1 ≤ side }
     requires small { side < 256 }
     ensures { IfSome result (λ b. offsets.now ≡ offset_rows b side side) }

@@ -38,11 +38,13 @@ abbrev pub Connected : Option (List ℕ) → Option (List ℕ) → Option (List 
 Connected left rest before after has_taken =
     (mid : Option (List ℕ)) × Conversed left mid before after has_taken × Drops mid rest × (has_taken ≡ false → rest ≡ mid)
 
--- the line that tells a fault, where this port was asked for
+-- the line that tells a fault, where this port was asked for; the fault of the state's port has that
 abbrev pub serve_line : ℕ → ServeFault → List ℕ
 serve_line port fault.Memory = codes "error: memory\n"
 serve_line port (fault.Port f) = port_line port f
+serve_line port (fault.Status state f) = port_line state f
 serve_line port fault.Socket = codes "error: socket\n"
+serve_line port fault.Descriptors = codes "error: descriptors\n"
 serve_line port fault.Output = codes "error: output\n"
 serve_line port fault.Thread = codes "error: thread\n"
 

@@ -17,6 +17,7 @@ use std::io;
 use std::io::{BufWriter, Read, Write};
 use std::net::OpenStream;
 use std::thread::Threads;
+use std::time::Clock;
 
 /// How many bytes of replies may wait for those behind them, so that they go out in one write.
 pub(crate) const HELD: usize = 65536;
@@ -72,7 +73,7 @@ fn converse<R: Read, W: Write + Drop, T: Threads + Sync>(
 /// Serves a connection, of which these are the socket, the reader and the writer, as one session. Gives the writer back, and
 /// whether it has taken all replies; where it has, what comes behind the end of the session is read and dropped. None where
 /// waiting cannot be bounded, or where there is no memory to hold replies: then nothing is read or written.
-pub fn serve_connection<S: OpenStream, R: Read, W: Write + Drop, T: Threads + Sync>(
+pub fn serve_connection<S: OpenStream, R: Read, W: Write + Drop, T: Threads + Clock + Sync>(
     crew: Crew<T>,
     socket: &S,
     source: &mut Source<R>,
@@ -94,7 +95,7 @@ pub fn serve_connection<S: OpenStream, R: Read, W: Write + Drop, T: Threads + Sy
     };
     let (writer, has_taken) = converse(crew, source, buffered, side);
     if has_taken {
-        finish(socket, source);
+        finish(crew.rt, socket, source);
     }
     Some((writer, has_taken))
 }

@@ -1,14 +1,20 @@
 //! A service over TCP: each connection is a session of its own, on a core of its own, and is served as a batch is.
 //!
 //! ```text
-//! let service = Service { port: 0, workers: 1, sessions: 16, side: 128, idle: Some(600) };
+//! let service = Service { port: 0, workers: 1, sessions: 16, side: 128, idle: Some(600), queue: Some(64), grace: 10, .. };
 //! let status = serve(&rt, alloc, service, until, &mut output, &mut faults);
 //! ```
 #![tactic(auto)]
 
 mod connection;
+mod counts;
+mod door;
 mod fault;
+mod guests;
+mod queue;
+mod seats;
 mod service;
+mod state;
 
 pub use connection::{serve_connection, serve_one};
 pub use fault::ServeFault;

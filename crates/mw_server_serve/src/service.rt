@@ -1,4 +1,4 @@
-//! A service: its threads, which are started once, and its end.
+//! A service: its ports, its line, and its end.
 
 ghost use Rattle.std.specs.Prelude.{OnOk, IfOk};
 ghost use Rattle.std.specs.Io.KnownBytes.{Appends};
@@ -6,23 +6,23 @@ ghost use Rattle.mw_grid.specs.Grids.{IsTileSide};
 ghost use Rattle.mw_server_socket.specs.Announcements.{announcement};
 ghost use Rattle.mw_server_serve.specs.Services.{Announces, IsPortFor, Offered, Told};
 
-use crate::connection::{HELD, serve_connection};
+use crate::connection::HELD;
+use crate::door::{Bell, Door, accept_all, close, end_sessions, start_accepting, start_beside};
 use crate::fault::ServeFault;
-use mw_batch::Crew;
-use mw_server_socket::wire::{Sink, Source, send};
-use mw_server_socket::{PortFault, announce, next_client};
+use mw_server_socket::wire::{Sink, send};
+use mw_server_socket::{PortFault, announce};
 use std::alloc::Global;
 use std::io::{BufWriter, ErrorKind, Read, Write};
-use std::net::{Ipv4Addr, Net, Shutdown, TcpListener, TcpStream};
-use std::os::fd::OwnedFd;
+use std::net::{Ipv4Addr, Net, TcpListener, TcpStream};
 use std::sync::Wait;
-use std::sync::atomic::{AtomicBool, Ordering};
-use std::thread::{Scope, Threads};
+use std::thread::Threads;
 use std::time::Clock;
 use std::{io, thread};
 
 /// The port on 127.0.0.1, 0 for one that the system picks; how many workers compute each session, how many sessions are
-/// served at once, the side of the tiles, and how many seconds a session waits for its client.
+/// served at once, the side of the tiles, and how many seconds a session waits for its client. Then how many more clients may
+/// wait for a session, where that is bounded; how many seconds sessions may go on once the service is to end; at which port it
+/// tells its state, if at any; and its version.
 #[derive(Clone, Copy, Debug, PartialEq, Eq)]
 pub struct Service {
     pub port: u16,
@@ -30,13 +30,10 @@ pub struct Service {
     pub sessions: usize,
     pub side: u32,
     pub idle: Option<u32>,
-}
-
-/// What the threads of a service share. Each takes one connection after the other until the service is over.
-#[derive(Drop)]
-struct Door {
-    listener: TcpListener,
-    is_over: AtomicBool,
+    pub queue: Option<u32>,
+    pub grace: u32,
+    pub status: Option<u16>,
+    pub version: &'static str,
 }
 
 /// A listener, and the port that it listens on.
@@ -46,63 +43,11 @@ struct Place {
     port: u16,
 }
 
-/// Serves the connection of a client. A fault of its wire ends this session alone.
-fn serve_stream<T: Threads + Sync>(crew: Crew<T>, stream: TcpStream, idle: Option<u32>, side: u32)
-    requires side { IsTileSide side }
-{
-    let _served = serve_connection(
-        crew,
-        &stream,
-        &mut Source::new(&stream),
-        &stream,
-        idle,
-        side,
-    );
-}
-
-/// Serves one connection after the other.
-fn serve_connections<R: Threads + Clock + Sync>(
-    rt: &R,
-    alloc: Global,
-    service: Service,
-    door: &Door,
-)
-    requires side { IsTileSide service.side }
-{
-    let crew = Crew {
-        alloc,
-        rt,
-        workers: service.workers,
-    };
-    for _ in 0..u64::MAX {
-        let Some(stream) = next_client(&door.listener, rt, &door.is_over) else {
-            return;
-        };
-        serve_stream(crew, stream, service.idle, service.side);
-    }
-}
-
-/// Starts a thread for each session that may be served at once.
-fn start_all<'h, E: 'h, R: Threads + Clock + Sync>(
-    scope: &Scope<'h, E>,
-    rt: &'h R,
-    alloc: Global,
-    service: Service,
-    door: &'h Door,
-) -> Result<(), ServeFault>
-    requires side { IsTileSide service.side }
-{
-    for _ in 0..service.sessions {
-        let started = scope.spawn(
-            move || -> ()
-                requires { IsTileSide service.side }
-            { serve_connections(rt, alloc, service, door) },
-        );
-        if started.is_err() {
-            return Err(ServeFault::Thread);
-        }
-    }
-    Ok(())
+/// What a service has before it tells its port.
+#[derive(Drop)]
+struct Ready {
+    door: Door,
+    bell: Bell,
 }
 
 /// Reads to the end, or until reading fails.
@@ -117,58 +62,14 @@ fn wait_for_end<I: Read + Drop>(mut input: I) {
     }
 }
 
-/// Has no more connections accepted, and ends each wait for one.
-fn close(door: &Door, listener: TcpListener) {
-    door.is_over.store(true, Ordering::SeqCst);
-    // The system ends all that wait at a socket that is shut down; std's listener has no such call, but its descriptor has.
-    let _closed = TcpStream::from(OwnedFd::from(listener)).shutdown(Shutdown::Both);
-}
-
-/// Serves in threads that are all joined when it returns: at the end of what it is to read, or never where that is nothing.
-fn serve_until<R: Threads + Wait + Clock + Sync, I: Read + Drop>(
-    rt: &R,
-    alloc: Global,
-    service: Service,
-    listener: TcpListener,
-    until: Option<I>,
-) -> Result<(), ServeFault>
-    requires side { IsTileSide service.side }
-{
-    let Ok(again) = listener.try_clone() else {
-        return Err(ServeFault::Socket);
-    };
-    let door = Door {
-        listener,
-        is_over: AtomicBool::new(false),
-    };
-    let door = &door;
-    thread::scope(
-        thread::scope_env(),
-        rt,
-        |scope| -> Result<(), ServeFault>
-            requires { IsTileSide service.side }
-        {
-            let started = start_all(scope, rt, alloc, service, door);
-            if started.is_ok() {
-                match until {
-                    Some(input) => wait_for_end(input),
-                    None => return Ok(()),
-                }
-            }
-            close(door, again);
-            started
-        },
-    )
-}
-
 /// A listener on this port.
 fn listener_at<R: Net<Listener = TcpListener, Stream = TcpStream>>(
     rt: &R,
     port: u16,
-) -> Result<TcpListener, ServeFault> {
+) -> Result<TcpListener, PortFault> {
     match TcpListener::bind(rt, (Ipv4Addr::LOCALHOST, port)) {
         Ok(listener) => Ok(listener),
-        Err(error) => Err(ServeFault::Port(PortFault::of(&error))),
+        Err(error) => Err(PortFault::of(&error)),
     }
 }
 
@@ -179,7 +80,10 @@ fn listen_on<R: Net<Listener = TcpListener, Stream = TcpStream>>(
 ) -> Result<Place, ServeFault>
     ensures { IfOk result (λ p. IsPortFor asked p.port) }
 {
-    let listener = listener_at(rt, asked)?;
+    let listener = match listener_at(rt, asked) {
+        Ok(listener) => listener,
+        Err(fault) => return Err(ServeFault::Port(fault)),
+    };
     if asked > 0 {
         return Ok(Place {
             listener,
@@ -195,8 +99,100 @@ fn listen_on<R: Net<Listener = TcpListener, Stream = TcpStream>>(
     })
 }
 
+/// A listener on the port of the state, where there is one.
+fn listen_for_state<R: Net<Listener = TcpListener, Stream = TcpStream>>(
+    rt: &R,
+    status: Option<u16>,
+) -> Result<Option<TcpListener>, ServeFault> {
+    let Some(port) = status else {
+        return Ok(None);
+    };
+    match listener_at(rt, port) {
+        Ok(listener) => Ok(Some(listener)),
+        Err(fault) => Err(ServeFault::Status(port, fault)),
+    }
+}
+
+/// A copy of a listener.
+fn copy_of(listener: &TcpListener) -> Result<TcpListener, ServeFault> {
+    match listener.try_clone() {
+        Ok(copy) => Ok(copy),
+        Err(_) => Err(ServeFault::Socket),
+    }
+}
+
+/// Whether a descriptor is left for the connection of a client.
+fn can_accept(listener: &TcpListener) -> Result<(), ServeFault> {
+    match listener.try_clone() {
+        Ok(_spare) => Ok(()),
+        Err(_) => Err(ServeFault::Descriptors),
+    }
+}
+
+/// Makes all that a service needs before it tells its port.
+fn prepare_door(
+    alloc: Global,
+    service: Service,
+    listener: TcpListener,
+    asked: Option<TcpListener>,
+) -> Result<Ready, ServeFault> {
+    let bell = Bell {
+        listener: copy_of(&listener)?,
+        asked: match &asked {
+            Some(asked) => Some(copy_of(asked)?),
+            None => None,
+        },
+    };
+    can_accept(&listener)?;
+    match Door::new(alloc, service, listener, asked) {
+        Some(door) => Ok(Ready { door, bell }),
+        None => Err(ServeFault::Memory),
+    }
+}
+
+/// Serves in threads that are all joined when it returns: at the end of what it is to read, or never where that is nothing. Who
+/// has nothing to read accepts by himself.
+fn serve_until<R: Threads + Wait + Clock + Sync, I: Read + Drop>(
+    rt: &R,
+    alloc: Global,
+    service: Service,
+    ready: Ready,
+    until: Option<I>,
+) -> Result<(), ServeFault>
+    requires side { IsTileSide service.side }
+{
+    let Ready { door, bell } = ready;
+    let door = &door;
+    thread::scope(
+        thread::scope_env(),
+        rt,
+        |scope| -> Result<(), ServeFault>
+            requires { IsTileSide service.side }
+        {
+            let mut started = start_beside(scope, rt, alloc, service, door);
+            if started.is_ok() {
+                let Some(input) = until else {
+                    accept_all(scope, rt, alloc, service, door);
+                    return Ok(());
+                };
+                started = start_accepting(scope, rt, alloc, service, door);
+                if started.is_ok() {
+                    wait_for_end(input);
+                }
+            }
+            close(rt, door, bell);
+            end_sessions(rt, door, service.grace);
+            started
+        },
+    )
+}
+
 /// Tells the port, and serves.
-fn serve_at<R: Threads + Wait + Clock + Sync, I: Read + Drop, O: Write>(
+fn serve_at<
+    R: Net<Listener = TcpListener, Stream = TcpStream> + Threads + Wait + Clock + Sync,
+    I: Read + Drop,
+    O: Write,
+>(
     rt: &R,
     alloc: Global,
     service: Service,
@@ -207,10 +203,13 @@ fn serve_at<R: Threads + Wait + Clock + Sync, I: Read + Drop, O: Write>(
     requires side { IsTileSide service.side }
     ensures { OnOk result (Appends (O.contents output.old.inner) (O.contents output.new.inner) (announcement place.port)) }
 {
-    if announce(output, place.port).is_err() {
+    let Place { listener, port } = place;
+    let asked = listen_for_state(rt, service.status)?;
+    let ready = prepare_door(alloc, service, listener, asked)?;
+    if announce(output, port).is_err() {
         return Err(ServeFault::Output);
     }
-    serve_until(rt, alloc, service, place.listener, until)
+    serve_until(rt, alloc, service, ready, until)
 }
 
 /// Listens, tells the port, and serves.
@@ -236,10 +235,11 @@ fn serve_all<
 }
 
 /// Listens on 127.0.0.1, tells on which port, and serves one connection after the other, so many at once, each as a batch.
-/// It ends when what it is to read has ended, once the sessions that run have ended too, or never where it is to read
-/// nothing, and gives the exit status: 0, or 1 where the service could not be begun; then the line of that fault goes to
-/// `faults`: `error: memory`, `error: output`, `error: thread`, `error: socket`, or the port and why it cannot be listened on.
-/// A connection that fails ends alone, and is no fault.
+/// Where the queue is bounded, who comes over it is told so, and its connection is closed. It ends when what it is to read has
+/// ended, once the sessions that run have ended too, or never where it is to read nothing, and gives the exit status: 0, or 1
+/// where the service could not be begun; then the line of that fault goes to `faults`: `error: memory`, `error: output`,
+/// `error: thread`, `error: socket`, `error: descriptors`, or the port and why it cannot be listened on. Sessions that have not
+/// ended when the seconds of grace are over find that their wires have. A connection that fails ends alone, and is no fault.
 pub fn serve<
     R: Net<Listener = TcpListener, Stream = TcpStream> + Threads + Wait + Clock + Sync,
     I: Read + Drop,

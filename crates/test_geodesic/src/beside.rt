@@ -2,7 +2,7 @@
 //! end before, at and behind the ends of words.
 
 use crate::given::{WAYS, made, slow_labels, slow_region};
-use mw_geodesic_runs::{Neighbours, labels_of, regions_of};
+use mw_geodesic_labels::{Neighbours, labels_of, regions_of};
 use mw_model::{Kind, Offset};
 use mw_pixel::{Bit, Plane};
 use mw_reference::ReferenceImage;

@@ -7,8 +7,8 @@ use mw_geodesic_grey::{border_cleared, h_maxima, holes_filled, regional_minima};
 use mw_geodesic_kept::{
     border_cleared_of_set, holes_filled_of_set, large_components_of_set, reconstruction_of_set,
 };
+use mw_geodesic_labels::{Neighbours, Region, labels_of, regions_of};
 use mw_geodesic_levels::reconstruction;
-use mw_geodesic_runs::{Neighbours, Region, labels_of, regions_of};
 use mw_netpbm::read;
 use mw_pixel::{Bit, Image, Pixel, Plane, View};
 use std::alloc::Global;

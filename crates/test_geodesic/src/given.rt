@@ -4,7 +4,7 @@ ghost use Rattle.std.specs.Prelude.{IsTrue};
 ghost use Rattle.mw_model.specs.Pictures.{IsSet};
 
 use mw_geodesic::{Labels, Neighbours, area_opening_of_set, is_symmetric, labelled};
-use mw_geodesic_runs::Region;
+use mw_geodesic_labels::Region;
 use mw_model::{Kind, NoMemory, Offset};
 use mw_reference::ReferenceImage;
 use std::alloc::Global;

@@ -8,6 +8,8 @@
 #![tactic(auto)]
 
 #[cfg(test)]
+mod area_calls;
+#[cfg(test)]
 mod areas;
 #[cfg(test)]
 mod beside;

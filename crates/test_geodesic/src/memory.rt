@@ -8,8 +8,8 @@ use mw_geodesic_grey::{h_minima, regional_maxima};
 use mw_geodesic_kept::{
     border_cleared_of_set, holes_filled_of_set, large_components_of_set, reconstruction_of_set,
 };
+use mw_geodesic_labels::{Labelled, Neighbours, NoMemory, Region, labels_of, regions_of};
 use mw_geodesic_levels::reconstruction;
-use mw_geodesic_runs::{Labelled, Neighbours, NoMemory, Region, labels_of, regions_of};
 use mw_pixel::{Bit, Plane};
 use std::alloc::Global;
 use std::process::Abort;

@@ -2,7 +2,7 @@
 
 ghost use Rattle.std.specs.Prelude.{◌≤◌, ◌↔◌, IsTrue, All};
 
-use mw_model::{Kind, NoMemory, Offset};
+use mw_model::Kind;
 use mw_reference::ReferenceImage;
 use std::alloc::Global;
 use std::test::Fail;
@@ -36,11 +36,6 @@ fn width_of(samples: &[u16]) -> Result<u32, Fail> {
     Ok(u32::try_from(samples.len()).ok().ok_or("a shorter row")?)
 }
 
-/// A row of levels.
-pub fn grey_row(alloc: Global, maxval: u16, samples: &[u16]) -> Result<ReferenceImage, Fail> {
-    image(alloc, Kind::Grey, width_of(samples)?, 1, maxval, samples)
-}
-
 /// A row of pixels, each 0 or 1.
 pub fn bit_row(alloc: Global, samples: &[u16]) -> Result<ReferenceImage, Fail> {
     image(alloc, Kind::Bit, width_of(samples)?, 1, 1, samples)
@@ -68,15 +63,4 @@ pub fn noise(
 ) -> Result<ReferenceImage, Fail> {
     let samples = mixed(alloc, u64::from(width) * u64::from(height), maxval)?;
     image(alloc, kind, width, height, maxval, &samples)
-}
-
-/// The erosion and the dilation by the reference.
-pub fn extrema(
-    alloc: Global,
-    image: &ReferenceImage,
-    offsets: &[Offset],
-) -> Result<(ReferenceImage, ReferenceImage), NoMemory> {
-    let eroded = mw_reference::erosion(alloc, image, offsets)?;
-    let dilated = mw_reference::dilation(alloc, image, offsets)?;
-    Ok((eroded, dilated))
 }

@@ -6,7 +6,7 @@ use std::alloc::Global;
 use std::test::Fail;
 
 /// The sample of this level, where the type has it.
-pub fn sample_of<P: Pixel>(level: u16) -> Result<P, Fail> {
+fn sample_of<P: Pixel>(level: u16) -> Result<P, Fail> {
     Ok(P::of(level).ok_or("a level of the type")?)
 }
 
@@ -26,55 +26,61 @@ fn put<P: Planar>(plane: &mut Plane<P>, x: u32, y: u32, dot: &Plane<P>) {
     }
 }
 
+/// A plane of one sample, of this level.
+fn dot<P: Planar>(alloc: Global, level: u16) -> Result<Plane<P>, Fail> {
+    Ok(Plane::filled(alloc, 1, 1, sample_of::<P>(level)?)?)
+}
+
+/// The place behind this one, in rows of so many columns.
+fn next(x: u32, y: u32, width: u32) -> (u32, u32) {
+    if x.wrapping_add(1) == width {
+        (0, y.wrapping_add(1))
+    } else {
+        (x.wrapping_add(1), y)
+    }
+}
+
 /// The samples of an image, in a type that has its levels.
 pub fn plane_of<P: Planar>(alloc: Global, image: &ReferenceImage) -> Result<Plane<P>, Fail> {
-    let (width, height) = (image.width(), image.height());
-    let mut plane = Plane::blank(alloc, width, height)?;
-    for y in 0..height {
-        for x in 0..width {
-            let level = image
-                .sample_at(i64::from(x), i64::from(y))
-                .ok_or("other sides")?;
-            let dot = Plane::filled(alloc, 1, 1, sample_of::<P>(level)?)?;
-            put(&mut plane, x, y, &dot);
-        }
+    let mut plane = Plane::blank(alloc, image.width(), image.height())?;
+    let (mut x, mut y) = (0, 0);
+    for level in image.samples() {
+        put(&mut plane, x, y, &dot::<P>(alloc, *level)?);
+        (x, y) = next(x, y, image.width());
     }
     Ok(plane)
 }
 
-/// The levels of a plane, by rows.
-pub fn levels_of<P: Planar>(alloc: Global, plane: &Plane<P>) -> Result<Vec<u16>, Fail> {
-    let mut levels = Vec::new(alloc);
-    for y in 0..plane.height() {
-        for x in 0..plane.width() {
-            levels.push(plane.at(x, y).value())?;
-        }
-    }
-    Ok(levels)
-}
-
 /// Whether the sample in that place has this level; false where there is no such place.
-pub(crate) fn has_level<P: Planar>(plane: &Plane<P>, x: u32, y: u32, level: Option<u16>) -> bool {
-    x < plane.width() && y < plane.height() && Some(plane.at(x, y).value()) == level
+fn has_level<P: Planar>(plane: &Plane<P>, x: u32, y: u32, level: u16) -> bool {
+    x < plane.width() && y < plane.height() && plane.at(x, y).value() == level
 }
 
 /// Whether these are the levels of the samples.
 pub fn are_levels<P: Pixel>(samples: &[P], levels: &[u16]) -> bool {
-    samples.len() == levels.len()
-        && samples
-            .iter()
-            .zip(levels)
-            .all(|(s, level)| s.value() == *level)
+    if samples.len() != levels.len() {
+        return false;
+    }
+    for at in 0..samples.len() {
+        if samples[at].value() != levels[at] {
+            return false;
+        }
+    }
+    true
 }
 
 /// Whether the plane has these levels, by rows.
 pub fn has_levels<P: Planar>(plane: &Plane<P>, levels: &[u16]) -> bool {
     let (width, height) = (plane.width(), plane.height());
-    levels.len() == height as usize * width as usize
-        && (0..height).all(|y| {
-            (0..width).all(|x| {
-                let at = y as usize * width as usize + x as usize;
-                has_level(plane, x, y, levels.get(at).copied())
-            })
-        })
+    if levels.len() != height as usize * width as usize {
+        return false;
+    }
+    let (mut x, mut y) = (0, 0);
+    for level in levels {
+        if !has_level(plane, x, y, *level) {
+            return false;
+        }
+        (x, y) = next(x, y, width);
+    }
+    true
 }

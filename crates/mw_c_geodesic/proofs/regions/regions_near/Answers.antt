@@ -3,7 +3,7 @@ use Rattle.std.specs.Prelude.{IfOk}
 use Rattle.mw_model.specs.Rasters.{Raster}
 use Rattle.mw_pixel.specs.Images.{set_of}
 use Rattle.mw_geodesic.specs.Neighbours.{neighbours_of}
-use Rattle.mw_geodesic_runs.specs.Regions.{AreRegionsOf}
+use Rattle.mw_geodesic_labels.specs.Regions.{AreRegionsOf}
 use Rattle.mw_c_arrays.proofs.SourceImages.{set_fills}
 use Rattle.mw_c_geodesic.proofs.Near.{few_places, narrow_plane}
 use Rattle.mw_c_geodesic.proofs.regions.regions_near.Goals as goal

@@ -1,7 +1,7 @@
 use Rattle.std.proofs.Common.{◌<◌, ◌^◌, length}
 use Rattle.std.proofs.lemmas.Result.{IfOk-weaker}
 use Rattle.mw_geodesic.specs.Neighbours.{neighbours_of}
-use Rattle.mw_geodesic_runs.specs.Regions.{AreRegionsOf}
+use Rattle.mw_geodesic_labels.specs.Regions.{AreRegionsOf}
 use Rattle.mw_c_arrays.specs.Arrays.{set_picture}
 use Rattle.mw_c_geodesic.proofs.CoveredAlike.{regions_alike}
 use Rattle.mw_c_geodesic.proofs.RegionRows.{few_regions}

@@ -1,6 +1,6 @@
 use Rattle.std.proofs.Common.{◌≡◌, ◌<◌, ℕ, length}
 use Rattle.std.specs.Prelude.{slice_index_or}
-use Rattle.mw_geodesic_runs.specs.declared.regions.Region.{Region}
+use Rattle.mw_geodesic_labels.specs.declared.regions.Region.{Region}
 use Rattle.mw_c_geodesic.specs.Sides.{IsRegionIn}
 use Rattle.mw_c_geodesic.proofs.told_regions.regions_in.Given as goal
 

@@ -23,7 +23,13 @@ returns c =
     let free_3 = c.in_ok-arg-3.ensures.globals ∙ ap₂ both free_2 c.usual_option-3.ensures.local in
     let free_4 = c.in_ok-arg-4.ensures.globals ∙ ap₂ both free_3 c.tile_option.ensures.local in
     let free_5 = c.in_ok-arg-5.ensures.globals ∙ ap₂ both free_4 c.idle_option.ensures.local in
-    IfOk-weaker c.arg-6.result _ _ (λ r h. (
-      h.shape c.flag_option.ensures.local ∙ ap₂ with_rule fifth c.flag_option.ensures.rule,
-      h.globals ∙ ap₂ both free_5 c.flag_option.ensures.local,
-    )) c.arg-6.ensures
+    let sixth = c.in_ok-arg-6.ensures.shape c.flag_option.ensures.local ∙ ap₂ with_rule fifth c.flag_option.ensures.rule in
+    let free_6 = c.in_ok-arg-6.ensures.globals ∙ ap₂ both free_5 c.flag_option.ensures.local in
+    let seventh = c.in_ok-arg-7.ensures.shape c.usual_option-4.ensures.local ∙ ap₂ with_rule sixth c.usual_option-4.ensures.rule in
+    let free_7 = c.in_ok-arg-7.ensures.globals ∙ ap₂ both free_6 c.usual_option-4.ensures.local in
+    let eighth = c.in_ok-arg-8.ensures.shape c.number_option.ensures.local ∙ ap₂ with_rule seventh c.number_option.ensures.rule in
+    let free_8 = c.in_ok-arg-8.ensures.globals ∙ ap₂ both free_7 c.number_option.ensures.local in
+    IfOk-weaker c.arg-9.result _ _ (λ r h. (
+      h.shape c.number_option-2.ensures.local ∙ ap₂ with_rule eighth c.number_option-2.ensures.rule,
+      h.globals ∙ ap₂ both free_8 c.number_option-2.ensures.local,
+    )) c.arg-9.ensures

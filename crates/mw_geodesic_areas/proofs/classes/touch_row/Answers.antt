@@ -1,5 +1,6 @@
 use Rattle.std.proofs.Common.{ℕ, subst, slice_index}
 use Rattle.mw_geodesic_levels.specs.Levels.{level_numbered}
+use Rattle.mw_geodesic_areas.specs.Seen.{level_seen}
 use Rattle.mw_geodesic_areas.specs.Problems.{problem}
 use Rattle.mw_geodesic_areas.specs.Classes.{MeetsRow}
 use Rattle.mw_geodesic_areas.proofs.Rows.{Row, row_met, row_met_straight}
@@ -9,7 +10,7 @@ pub returns-clause-met : goal.returns-clause-met
 returns-clause-met g c =
     let level = g.P.Pixel.level in
     let frame = c.args.task.now.frame in
-    let levels = level_numbered level c.args.task.now.samples.now in
+    let levels = level_seen level c.args.task.now.turned c.args.task.now.maxval c.args.task.now.samples.now in
     let x = c.args.place.x in
     let y = c.args.place.y in
     let row : Row frame x y c.args.v c.reach-far.result c.saturating_sub-left.result c.min-right.result c.number-p.result c.number-first.result c.number-middle.result c.number-last.result = record {
@@ -37,7 +38,7 @@ pub returns-then-far-eq0-clause-met : goal.returns-then-far-eq0-clause-met
 returns-then-far-eq0-clause-met g c =
     let level = g.P.Pixel.level in
     let frame = c.args.task.now.frame in
-    let levels = level_numbered level c.args.task.now.samples.now in
+    let levels = level_seen level c.args.task.now.turned c.args.task.now.maxval c.args.task.now.samples.now in
     let x = c.args.place.x in
     let y = c.args.place.y in
     subst (λ (n : ℕ). MeetsRow (problem frame levels c.args.task.now.least) n x y c.args.v c.args.parent.now (slice_index c.args.links.now) (level_numbered level c.args.out.now) c.touch.new.parent (slice_index c.touch.new.links) (level_numbered level c.touch.new.out))

@@ -1,16 +1,15 @@
-use Rattle.std.proofs.Common.{ap}
+use Rattle.std.proofs.Common.{◌≡◌, ◌≤◌, subst, sym}
+use Rattle.std.specs.Prelude.{All, IfOk}
+use Rattle.mw_model.specs.Rasters.{Raster}
+use Rattle.mw_geodesic.specs.Extrema.{h_minima}
 use Rattle.mw_geodesic.specs.Neighbours.{neighbours_of}
 use Rattle.mw_geodesic_levels.specs.Pictures.{picture_by}
-use Rattle.mw_geodesic_grey.proofs.Duals.{minima_by}
-use Rattle.mw_geodesic_grey.proofs.Redrawn.{plane_picture}
 use Rattle.mw_geodesic_grey.proofs.extrema.h_minima.Goals as goal
+
+pub fill_basins-requires-clause-image : goal.fill_basins-requires-clause-image
+fill_basins-requires-clause-image g c = subst (λ (t : Raster _). All (λ s. g.P.Pixel.level s ≤ c.args.maxval) t.cells) (sym c.in_ok-image.ensures.same) c.requires.image
 
 pub returns : goal.returns
 returns g c =
-    let maxval = c.args.maxval in
-    let picture = picture_by g.P.Pixel.level maxval in
-    let e = neighbours_of c.args.neighbours in
-    let image = c.args.image.now in
-    let is = plane_picture g.P.Pixel.level maxval image c.in_ok-copy.ensures.size c.requires.image in
-    minima_by e c.args.h (picture image) (picture c.in_ok-copy.field-0) (picture c.complement-below.result) (picture c.in_ok-cut.cut) (picture c.complement.result)
-    is (ap picture c.in_ok-copy.ensures.same) c.complement-below.ensures.picture (c.in_ok-cut.ensures maxval) c.complement.ensures.picture
+    let picture = picture_by g.P.Pixel.level c.args.maxval in
+    subst (λ (t : Raster _). IfOk c.fill_basins.result (λ r. picture r ≡ h_minima (neighbours_of c.args.neighbours) c.args.h (picture t))) c.in_ok-image.ensures.same c.fill_basins.ensures

@@ -1,4 +1,4 @@
-use Rattle.mw_geodesic_grey.proofs.Redrawn.{same_plane}
+use Rattle.mw_geodesic_levels.proofs.Rebuilt.{same_plane}
 use Rattle.mw_geodesic_grey.proofs.planes.copy.Goals as goal
 
 pub returns-clause-same : goal.returns-clause-same

@@ -12,4 +12,4 @@ returns g c = λ maxval.
     let level = g.P.Pixel.level in
     let f = picture_by level maxval c.args.image.now in
     let marker = same_marker (border_over 0) level maxval c.args.image.now c.in_ok-copy.field-0 c.border_over_nothing-border.result (c.border_over_nothing-border.ensures.picture maxval) c.in_ok-copy.ensures.same in
-    subst (λ (t : Picture). IfOk c.reconstruction.result (λ r. picture_by level maxval r ≡ reconstruction (neighbours_of c.args.neighbours) f t)) marker (c.reconstruction.ensures maxval)
+    subst (λ (t : Picture). IfOk c.reconstruct.result (λ r. picture_by level maxval r ≡ reconstruction (neighbours_of c.args.neighbours) f t)) marker (c.reconstruct.ensures maxval)

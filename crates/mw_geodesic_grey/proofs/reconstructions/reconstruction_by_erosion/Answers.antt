@@ -1,18 +1,31 @@
-use Rattle.std.proofs.Common.{ap, refl, sym}
+use Rattle.std.proofs.Common.{◌≡◌, ◌≤◌, ◌∙◌, ap, subst, sym}
+use Rattle.std.specs.Prelude.{All, IfOk}
+use Rattle.mw_model.specs.Rasters.{Raster}
+use Rattle.mw_geodesic.specs.Geodesics.{reconstruction_by_erosion}
 use Rattle.mw_geodesic.specs.Neighbours.{neighbours_of}
 use Rattle.mw_geodesic_levels.specs.Pictures.{picture_by}
-use Rattle.mw_geodesic_grey.proofs.Duals.{eroded_by}
-use Rattle.mw_geodesic_grey.proofs.Redrawn.{plane_picture}
 use Rattle.mw_geodesic_grey.proofs.reconstructions.reconstruction_by_erosion.Goals as goal
+
+pub reconstruct_by_erosion-requires-clause-width : goal.reconstruct_by_erosion-requires-clause-width
+reconstruct_by_erosion-requires-clause-width g c =
+    ap (λ (t : Raster _). t.width) c.in_ok-marker.ensures.same ∙ c.requires.width ∙ sym (ap (λ (t : Raster _). t.width) c.in_ok-mask.ensures.same)
+
+pub reconstruct_by_erosion-requires-clause-height : goal.reconstruct_by_erosion-requires-clause-height
+reconstruct_by_erosion-requires-clause-height g c =
+    ap (λ (t : Raster _). t.height) c.in_ok-marker.ensures.same ∙ c.requires.height ∙ sym (ap (λ (t : Raster _). t.height) c.in_ok-mask.ensures.same)
+
+pub reconstruct_by_erosion-requires-clause-marker : goal.reconstruct_by_erosion-requires-clause-marker
+reconstruct_by_erosion-requires-clause-marker g c =
+    subst (λ (t : Raster _). All (λ s. g.P.Pixel.level s ≤ c.args.maxval) t.cells) (sym c.in_ok-marker.ensures.same) c.requires.marker
+
+pub reconstruct_by_erosion-requires-clause-mask : goal.reconstruct_by_erosion-requires-clause-mask
+reconstruct_by_erosion-requires-clause-mask g c =
+    subst (λ (t : Raster _). All (λ s. g.P.Pixel.level s ≤ c.args.maxval) t.cells) (sym c.in_ok-mask.ensures.same) c.requires.mask
 
 pub returns : goal.returns
 returns g c =
-    let maxval = c.args.maxval in
-    let picture = picture_by g.P.Pixel.level maxval in
+    let picture = picture_by g.P.Pixel.level c.args.maxval in
     let e = neighbours_of c.args.neighbours in
-    let marker = c.args.marker.now in
-    let mask = c.args.mask.now in
-    eroded_by e (picture mask) (picture marker) (picture c.in_ok-copy-2.field-0) (picture c.in_ok-copy.field-0) (picture c.complement-below.result) (picture c.complement-within.result) (picture c.in_ok-rebuilt.rebuilt)
-    (picture c.complement.result) (plane_picture g.P.Pixel.level maxval marker c.in_ok-copy.ensures.size c.requires.marker) (plane_picture g.P.Pixel.level maxval mask c.in_ok-copy-2.ensures.size c.requires.mask)
-    (record { kind = refl; width = sym c.requires.width; height = sym c.requires.height; maxval = refl }) (ap picture c.in_ok-copy.ensures.same) (ap picture c.in_ok-copy-2.ensures.same)
-    c.complement-below.ensures.picture c.complement-within.ensures.picture (c.in_ok-rebuilt.ensures maxval) c.complement.ensures.picture
+    let made = c.reconstruct_by_erosion.result in
+    subst (λ (t : Raster _). IfOk made (λ r. picture r ≡ reconstruction_by_erosion e (picture t) (picture c.args.marker.now))) c.in_ok-mask.ensures.same
+    (subst (λ (t : Raster _). IfOk made (λ r. picture r ≡ reconstruction_by_erosion e (picture c.in_ok-mask.mask) (picture t))) c.in_ok-marker.ensures.same c.reconstruct_by_erosion.ensures)

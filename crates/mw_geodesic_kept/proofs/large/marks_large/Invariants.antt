@@ -4,4 +4,4 @@ use Rattle.mw_geodesic_kept.specs.Keeping.{AreMarkedLarge}
 use Rattle.mw_geodesic_kept.proofs.large.marks_large.Given as goal
 
 abbrev pub invariant-loop-k : goal.invariant-loop-k
-invariant-loop-k l = record { size : vec_len l.marks ≡ length l.regions + 1; marked : AreMarkedLarge l.least l.regions l.k l.marks.items }
+invariant-loop-k l = record { size : vec_len l.marks ≡ length l.areas + 1; marked : AreMarkedLarge l.least l.areas l.k l.marks.items }

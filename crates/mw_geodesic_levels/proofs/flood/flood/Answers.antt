@@ -3,13 +3,13 @@ use Rattle.mw_geodesic_levels.specs.Levels.{level_numbered}
 use Rattle.mw_geodesic_levels.proofs.Raises.{raised_itself, raised_on}
 use Rattle.mw_geodesic_levels.proofs.flood.flood.Goals as goal
 
-pub loop-taken-init : goal.loop-taken-init
-loop-taken-init g c = raised_itself c.args.frame (level_numbered g.P.Pixel.level c.args.mask.now) (level_numbered g.P.Pixel.level c.args.samples.now)
+pub loop-batch-init : goal.loop-batch-init
+loop-batch-init g c = raised_itself c.args.frame (level_numbered g.P.Pixel.level c.args.mask.now) (level_numbered g.P.Pixel.level c.args.samples.now)
 
-pub loop-taken-preserved : goal.loop-taken-preserved
-loop-taken-preserved g c = raised_on c.loop-taken.invariant c.offer_around.ensures.raised
+pub loop-batch-preserved : goal.loop-batch-preserved
+loop-batch-preserved g c = raised_on c.loop-batch.invariant c.flood_batch.ensures.raised
 
-pub loop-taken-smaller : goal.loop-taken-smaller
-loop-taken-smaller g c =
-    let cheaper = c.offer_around.ensures.cheaper in
+pub loop-batch-smaller : goal.loop-batch-smaller
+loop-batch-smaller g c =
+    let cheaper = c.flood_batch.ensures.cheaper in
     omega (arith, c.in-Some.ensures refl)

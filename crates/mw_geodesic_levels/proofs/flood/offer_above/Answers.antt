@@ -2,5 +2,5 @@ use Rattle.mw_geodesic_levels.specs.Levels.{level_numbered}
 use Rattle.mw_geodesic_levels.proofs.Rooms.{flooded_itself}
 use Rattle.mw_geodesic_levels.proofs.flood.offer_above.Goals as goal
 
-pub returns-else-q-gt0 : goal.returns-else-q-gt0
-returns-else-q-gt0 g c = flooded_itself c.args.frame (level_numbered g.P.Pixel.level c.args.mask.now) (level_numbered g.P.Pixel.level c.args.samples.now) c.args.queue.now
+pub returns-else-stretch-gt0 : goal.returns-else-stretch-gt0
+returns-else-stretch-gt0 g c = flooded_itself c.args.frame (level_numbered g.P.Pixel.level c.args.mask.now) (level_numbered g.P.Pixel.level c.args.samples.now) c.args.queue.now

@@ -2,4 +2,4 @@ use Rattle.mw_geodesic_levels.proofs.Raises.{raised_on}
 use Rattle.mw_geodesic_levels.proofs.last_look.raise_all.Goals as goal
 
 pub returns : goal.returns
-returns g c = raised_on c.sweep_down.ensures (raised_on c.sweep_up.ensures c.flood.ensures)
+returns g c = raised_on c.sweep_all.ensures c.flood.ensures

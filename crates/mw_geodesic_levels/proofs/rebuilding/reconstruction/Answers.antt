@@ -1,29 +1,21 @@
-use Rattle.std.proofs.Common.{◌≡◌, ◌*◌, ◌∙◌, length, ap, sym, arith}
-use Rattle.mw_model.proofs.mw_facts.Elements.{take-written}
+use Rattle.std.proofs.Common.{◌≡◌, ◌∙◌, ap, subst}
+use Rattle.std.specs.Prelude.{IfOk}
 use Rattle.mw_model.specs.Rasters.{Raster}
-use Rattle.mw_geodesic_levels.specs.declared.frame.Frame.{Frame}
+use Rattle.mw_geodesic.specs.Geodesics.{reconstruction}
 use Rattle.mw_geodesic.specs.Neighbours.{neighbours_of}
-use Rattle.mw_geodesic_levels.proofs.Rebuilt.{rebuilt_planes, same_size}
+use Rattle.mw_geodesic_levels.specs.Pictures.{picture_by}
+use Rattle.mw_geodesic_levels.proofs.Rebuilt.{same_plane}
 use Rattle.mw_geodesic_levels.proofs.rebuilding.reconstruction.Goals as goal
 
-pub rebuild-requires-clause-size : goal.rebuild-requires-clause-size
-rebuild-requires-clause-size g c =
-    same_size c.args.marker.now.height c.args.marker.now.width c.height.result c.width.result _ (ap length (c.as_mut_slice.ensures.value ∙ c.in_ok-samples.ensures.items ∙ c.samples.ensures.value) ∙ c.samples.ensures.size)
-    (c.requires.height ∙ sym c.height.ensures.value) (c.requires.width ∙ sym c.width.ensures.value)
+pub reconstruct-requires-clause-width : goal.reconstruct-requires-clause-width
+reconstruct-requires-clause-width g c = ap (λ (t : Raster _). t.width) c.new.ensures ∙ c.width-width.ensures.value ∙ c.requires.width
 
-pub rebuild-requires-clause-mask : goal.rebuild-requires-clause-mask
-rebuild-requires-clause-mask g c =
-    same_size c.args.mask.now.height c.args.mask.now.width c.height.result c.width.result _ (ap length c.samples-2.ensures.value ∙ c.samples-2.ensures.size) (sym c.height.ensures.value) (sym c.width.ensures.value)
+pub reconstruct-requires-clause-height : goal.reconstruct-requires-clause-height
+reconstruct-requires-clause-height g c = ap (λ (t : Raster _). t.height) c.new.ensures ∙ c.height-height.ensures.value ∙ c.requires.height
 
 pub returns : goal.returns
 returns g c = λ maxval.
-    let frame : Frame = record { width = c.width.result; height = c.height.result; corners = c.corners.result } in
-    let made = c.rebuild.new.samples in
-    let size : length c.as_mut_slice.result.now ≡ c.height.result * c.width.result =
-    same_size c.args.marker.now.height c.args.marker.now.width c.height.result c.width.result _ (ap length (c.as_mut_slice.ensures.value ∙ c.in_ok-samples.ensures.items ∙ c.samples.ensures.value) ∙ c.samples.ensures.size)
-    (c.requires.height ∙ sym c.height.ensures.value) (c.requires.width ∙ sym c.width.ensures.value) in
-    rebuilt_planes g.P.Pixel.level maxval frame c.args.marker.now c.args.mask.now c.new.result (neighbours_of c.args.neighbours) c.samples-2.result.now c.as_mut_slice.result.now made c.corners.ensures
-    (c.requires.width ∙ sym c.width.ensures.value) (c.requires.height ∙ sym c.height.ensures.value) (sym c.width.ensures.value) (sym c.height.ensures.value)
-    (ap (λ (t : Raster _). t.width) c.new.ensures) (ap (λ (t : Raster _). t.height) c.new.ensures) c.samples-2.ensures.value (c.as_mut_slice.ensures.value ∙ c.in_ok-samples.ensures.items ∙ c.samples.ensures.value)
-    (ap (λ (t : Raster _). t.cells) c.new.ensures ∙ take-written c.in_ok-samples.samples.items made c.in_ok-samples.samples.len (omega (arith, size, c.in_ok-samples.ensures.len, ap length c.as_mut_slice.ensures.value, c.as_mut_slice.ensures.len)))
-    (omega (arith, size)) c.in_ok-rebuild.ensures
+    let picture = picture_by g.P.Pixel.level maxval in
+    let same = same_plane c.args.marker.now c.new.result c.width-width.result c.height-height.result c.in_ok-samples.samples.items c.samples.result.now c.new.ensures c.width-width.ensures.value c.height-height.ensures.value
+    c.in_ok-samples.ensures.items c.samples.ensures.value in
+    subst (λ (t : Raster _). IfOk c.reconstruct.result (λ r. picture r ≡ reconstruction (neighbours_of c.args.neighbours) (picture c.args.mask.now) (picture t))) same (c.reconstruct.ensures maxval)

@@ -1,7 +1,7 @@
 use Rattle.std.proofs.Common.{◌≡◌, length, drop, arith}
 use Rattle.std.proofs.lemmas.List.{take_at}
 use Rattle.mw_pixel.specs.Images.{set_of}
-use Rattle.mw_geodesic_runs.proofs.Results.{set_is, components_by}
+use Rattle.mw_geodesic_runs.proofs.Found.{set_is, components_by}
 use Rattle.mw_geodesic_runs.proofs.components.components_of.Goals as goal
 
 pub returns : goal.returns

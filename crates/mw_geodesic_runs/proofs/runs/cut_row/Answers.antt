@@ -1,7 +1,8 @@
-use Rattle.std.proofs.Common.{◌∙◌, ◌*◌, ◌≤◌, List, length, refl, sym, subst, arith}
+use Rattle.std.proofs.Common.{◌∙◌, ◌*◌, ◌<◌, ◌≤◌, List, length, refl, sym, subst, arith, inl, inr}
+use Rattle.std.proofs.lemmas.Bool.{cases_lt}
 use Rattle.mw_pixel.specs.Images.{set_of}
 use Rattle.mw_geodesic_runs.specs.declared.runs.Run.{Run}
-use Rattle.mw_geodesic_runs.proofs.Cuts.{HoldRow, Cutting, cutting_begins, cutting_on, row_done, room_left}
+use Rattle.mw_geodesic_runs.proofs.Cuts.{HoldRow, Cutting, cutting_begins, cutting_by, end_in_row, row_done, room_left}
 use Rattle.mw_geodesic_runs.proofs.runs.cut_row.Goals as goal
 
 pub cuts-init : goal.cuts-init
@@ -12,7 +13,23 @@ cuts-init c =
     record {
       cutting = cutting_begins f words c.next_place-at.result c.args.y c.args.runs.now.items row c.next_place-at.ensures.within c.next_place-at.ensures.none c.next_place-at.ensures.found c.requires.above;
       room = c.requires.room;
+      left = c.changes_behind-left.ensures;
     }
+
+pub changes_behind-left-requires-clause-zeros : goal.changes_behind-left-requires-clause-zeros
+changes_behind-left-requires-clause-zeros c = λ x lt. c.next_place-at.ensures.none x (omega arith) lt
+
+pub changes_behind-left-requires-clause-one : goal.changes_behind-left-requires-clause-one
+changes_behind-left-requires-clause-one c = c.next_place-at.ensures.found
+
+pub overflow_cast-end : goal.overflow_cast-end
+overflow_cast-end c =
+    let f = set_of c.args.set.now in
+    let words = c.row-words.result.now in
+    let row : HoldRow f c.args.y words = record { samples = c.row-words.ensures.samples; clean = c.row-words.ensures.clean; size = omega (arith, c.row-words.ensures.length) } in
+    let within = end_in_row f words c.cuts.at c.next_change-end.result c.args.y c.cuts.runs.items row c.cuts.invariant.cutting c.cuts-test.true c.next_change-end.ensures.next in
+    let narrow = c.requires.narrow in
+    omega arith
 
 pub push_reserved-requires : goal.push_reserved-requires
 push_reserved-requires c =
@@ -29,16 +46,26 @@ cuts-preserved c =
     let words = c.row-words.result.now in
     let y = c.args.y in
     let at = c.cuts.at in
-    let end = c.next_place-end.result in
-    let next = c.next_place-at-in-cuts.result in
+    let end = c.next_change-end.result in
+    let next = c.next_change-at.result in
     let run : Run = record { row = y; first = at; end = end } in
     let row : HoldRow f y words = record { samples = c.row-words.ensures.samples; clean = c.row-words.ensures.clean; size = omega (arith, c.row-words.ensures.length) } in
     record {
       cutting = subst (λ (t : List Run). Cutting f words next y t) (sym c.push_reserved.ensures.items)
-          (cutting_on f words at end next y c.cuts.runs.items run row refl refl refl c.cuts.invariant.cutting c.cuts-test.true c.next_place-end.ensures.from c.next_place-end.ensures.within c.next_place-end.ensures.none c.next_place-end.ensures.found
-          c.next_place-at-in-cuts.ensures.from c.next_place-at-in-cuts.ensures.within c.next_place-at-in-cuts.ensures.none c.next_place-at-in-cuts.ensures.found);
+          (cutting_by f words at end next y c.cuts.runs.items run row refl refl refl c.cuts.invariant.cutting c.cuts-test.true c.next_change-end.ensures.next c.next_change-at.ensures.next);
       room = c.push_reserved.ensures.capacity ∙ c.cuts.invariant.room;
+      left = c.next_change-at.ensures.left;
     }
+
+pub cuts-smaller : goal.cuts-smaller
+cuts-smaller c =
+    let ends = c.next_change-end.ensures.next in
+    let begins = c.next_change-at.ensures.next in
+    let from = ends.from in
+    let from' = begins.from in
+    let within = begins.within in
+    let some : c.cuts.at < c.next_change-end.result = elim (cases_lt c.next_change-end.result (64 * length c.row-words.result.now)) [ inl lt ↦ ends.later lt | inr past ↦ omega arith ] in
+    omega arith
 
 pub returns-clause-runs : goal.returns-clause-runs
 returns-clause-runs c =

@@ -1,0 +1,4 @@
+-- the crate's own
+mod AreaImages
+mod Changed
+mod Planes

@@ -1,0 +1,24 @@
+use Rattle.std.proofs.Common.{◌≡◌, ◌∙◌, of_z, rules, sym, to_z, w32}
+use Rattle.std.proofs.lemmas.List.{map-id}
+use Rattle.mw_c_arrays.specs.Arrays.{element_in_bytes}
+use Rattle.mw_c_geodesic.proofs.Answered.{kept_else, made_zero, symmetric_answered}
+use Rattle.mw_c_geodesic_levels.proofs.area_calls.area_u8.Goals as goal
+
+pub filter-made-requires-clause-samples : goal.filter-made-requires-clause-samples
+filter-made-requires-clause-samples c = sym (map-id c.args.samples.now)
+
+pub returns-clause-made : goal.returns-clause-made
+returns-clause-made c zero =
+    let same : to_z w32 (of_z w32 c.answer.result) ≡ c.answer.result = search rules in
+    sym (map-id c.filter-made.new.out) ∙ made_zero c.filter-made.result _ (to_z w32 (of_z w32 c.answer.result)) (same ∙ c.answer.ensures) c.filter-made.ensures.made zero
+
+pub returns-clause-kept : goal.returns-clause-kept
+returns-clause-kept c not_zero =
+    let same : to_z w32 (of_z w32 c.answer.result) ≡ c.answer.result = search rules in
+    kept_else c.filter-made.result (to_z w32 (of_z w32 c.answer.result)) (c.filter-made.new.out ≡ c.args.out.now) (same ∙ c.answer.ensures) c.filter-made.ensures.kept not_zero
+
+pub returns-clause-first : goal.returns-clause-first
+returns-clause-first c =
+    let same : to_z w32 (of_z w32 c.answer.result) ≡ c.answer.result = search rules in
+    let e = element_in_bytes c.args.element_width c.args.element_height c.args.element_x c.args.element_y c.args.element.now in
+    symmetric_answered e _ c.filter-made.result (to_z w32 (of_z w32 c.answer.result)) (same ∙ c.answer.ensures) c.filter-made.ensures.told

@@ -1,0 +1,57 @@
+-- What is made of the components that were found.
+use Rattle.std.proofs.Common.{◌≡◌, ℕ, ◌*◌, ◌^◌, ◌<◌, ◌≤◌, List, length, refl, sym, subst, ap, arith, ◌∙◌}
+use Rattle.mw_model.specs.Pictures.{Picture}
+use Rattle.mw_geodesic.specs.Labels.{IsLabelling}
+use Rattle.mw_model.specs.declared.offsets.Offset.{Offset}
+use Rattle.mw_geodesic_runs.specs.declared.runs.Run.{Run}
+use Rattle.mw_geodesic_runs.specs.Components.{AreComponents}
+use Rattle.mw_geodesic_labels.specs.Painting.{painted_runs, RunsFit}
+use Rattle.mw_geodesic_labels.specs.declared.regions.Region.{Region}
+use Rattle.mw_geodesic_labels.specs.Regions.{AreRegionsOf, AreRegionsWithLabels}
+use Rattle.mw_geodesic_labels.specs.Gathering.{AreGathered, AreWide}
+use Rattle.mw_geodesic_labels.proofs.Labellings.{labelling}
+use Rattle.mw_geodesic_labels.proofs.Paintings.{blank, length-blank, blank_zero, runs_fit, shows_numbers}
+use Rattle.mw_geodesic_labels.proofs.Gathered.{are_wide}
+use Rattle.mw_geodesic_labels.proofs.Told.{are_regions, as_many}
+
+pub labels_by : (e : List Offset) (f : Picture) (runs runs' : List Run) (numbers numbers' : List ℕ) (count w : ℕ) (xs new labels : List ℕ) → AreComponents e f runs numbers count → w ≡ f.width → runs' ≡ runs → numbers' ≡ numbers
+    → xs ≡ blank (f.height * f.width) → new ≡ painted_runs w runs' numbers' (length runs') xs → labels ≡ new → IsLabelling e f count labels
+labels_by e f runs runs' numbers numbers' count w xs new labels are wide same same_numbers none is same_labels =
+    let n = f.height * f.width in
+    let now : labels ≡ painted_runs f.width runs numbers (length runs) (blank n) =
+    same_labels ∙ is
+    ∙ ap (λ (t : ℕ). painted_runs t runs' numbers' (length runs') xs) wide
+    ∙ ap (λ (t : List Run). painted_runs f.width t numbers' (length t) xs) same
+    ∙ ap (λ (t : List ℕ). painted_runs f.width runs t (length runs) xs) same_numbers
+    ∙ ap (λ (t : List ℕ). painted_runs f.width runs numbers (length runs) t) none in
+    labelling e f runs numbers labels count are (shows_numbers f runs numbers (blank n) labels are.cut (length-blank n) (blank_zero n) now)
+
+pub fit_by : (e : List Offset) (f : Picture) (runs runs' : List Run) (numbers : List ℕ) (count w size : ℕ) → AreComponents e f runs numbers count → w ≡ f.width → runs' ≡ runs → size ≡ f.height * f.width → RunsFit w size runs'
+fit_by e f runs runs' numbers count w size are wide same is =
+    subst (λ (t : List Run). RunsFit w size t) (sym same) (subst (λ (t : ℕ). RunsFit t size runs) (sym wide) (subst (λ (t : ℕ). RunsFit f.width t runs) (sym is) (runs_fit f runs are.cut)))
+
+pub wide_by : (e : List Offset) (f : Picture) (runs runs' : List Run) (numbers numbers' : List ℕ) (count : ℕ) → f.height * f.width < 2 ^ 32 → AreComponents e f runs numbers count → runs' ≡ runs → numbers' ≡ numbers → AreWide runs' numbers' count
+wide_by e f runs runs' numbers numbers' count few are same same_numbers =
+    subst (λ (t : List Run). AreWide t numbers' count) (sym same) (subst (λ (t : List ℕ). AreWide runs t count) (sym same_numbers) (are_wide e f runs numbers count few are))
+
+pub regions_by : (e : List Offset) (f : Picture) (runs runs' : List Run) (numbers numbers' : List ℕ) (count : ℕ) (regions : List Region) → AreComponents e f runs numbers count → runs' ≡ runs → numbers' ≡ numbers
+    → AreGathered runs' numbers' (length runs') regions → AreRegionsOf e f regions
+regions_by e f runs runs' numbers numbers' count regions are same same_numbers told =
+    are_regions e f runs numbers count regions are
+    (subst (λ (t : List ℕ). AreGathered runs t (length runs) regions) same_numbers (subst (λ (t : List Run). AreGathered t numbers' (length t) regions) same told))
+
+pub many_by : (e : List Offset) (f : Picture) (runs runs' : List Run) (numbers numbers' : List ℕ) (count : ℕ) (regions : List Region) → AreComponents e f runs numbers count → runs' ≡ runs → numbers' ≡ numbers
+    → AreGathered runs' numbers' (length runs') regions → length regions ≡ count
+many_by e f runs runs' numbers numbers' count regions are same same_numbers told =
+    as_many e f runs numbers count regions are
+    (subst (λ (t : List ℕ). AreGathered runs t (length runs) regions) same_numbers (subst (λ (t : List Run). AreGathered t numbers' (length t) regions) same told))
+
+pub with_labels : (e : List Offset) (f : Picture) (count most : ℕ) (old new : List ℕ) (regions : List Region) → AreRegionsOf e f regions → length regions ≡ count → IsLabelling e f count new → length regions ≤ most → AreRegionsWithLabels e f most old new regions
+with_labels e f count most old new regions are many labelling le = record {
+  are = are;
+  labels = λ fits. subst (λ (n : ℕ). IsLabelling e f n new) (sym many) labelling;
+  unlabelled = λ more. absurd (omega arith);
+}
+
+pub without_labels : (e : List Offset) (f : Picture) (most : ℕ) (old : List ℕ) (regions : List Region) → AreRegionsOf e f regions → most < length regions → AreRegionsWithLabels e f most old old regions
+without_labels e f most old regions are more = record { are = are; labels = λ le. absurd (omega arith); unlabelled = λ lt. refl }

@@ -1,0 +1,3 @@
+pub mod Painting
+pub mod Regions
+pub mod Gathering

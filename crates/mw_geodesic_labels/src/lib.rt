@@ -1,0 +1,24 @@
+//! Labels of a set, and what is told of its components, of their runs (`mw_geodesic_runs`). Their contracts are the definitions
+//! of `mw_geodesic`, under the four and the eight neighbours. What is told of each component is what the definition by
+//! reconstructions of points says (`laws`).
+//!
+//! ```text
+//! let Labelled { count, labels } = labels_of(alloc, &set, Neighbours::Eight)?;
+//! let regions = regions_of(alloc, &set, Neighbours::Eight)?;      // regions[k] tells of the places with label k + 1
+//! ```
+//!
+//! Beside the result there are the runs and their numbers. Nothing else is asked for.
+#![tactic(auto)]
+
+mod areas;
+mod labels;
+pub mod laws;
+mod measured;
+mod painting;
+mod regions;
+
+pub use areas::areas_of;
+pub use labels::{Labelled, labels_of, write_labels};
+pub use measured::label_and_measure;
+pub use mw_geodesic_runs::{Neighbours, NoMemory};
+pub use regions::{Region, gather, regions_of};

@@ -1,0 +1,5 @@
+use Rattle.mw_geodesic_levels.specs.Levels.{level_numbered, IsRaised}
+use Rattle.mw_geodesic_levels.proofs.plateaus.spread_right.Given as goal
+
+abbrev pub invariant-loop-x : goal.invariant-loop-x
+invariant-loop-x g l = IsRaised l.frame (level_numbered g.P.Pixel.level l.mask) (level_numbered g.P.Pixel.level l.initial.samples) (level_numbered g.P.Pixel.level l.samples)

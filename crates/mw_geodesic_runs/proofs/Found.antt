@@ -1,0 +1,49 @@
+-- What the classes of a forest of runs are: the components of the set.
+use Rattle.std.proofs.Common.{◌≡◌, ℕ, ◌*◌, ◌≤◌, List, length, get_or, refl, sym, subst, arith, ◌∙◌, inl}
+use Rattle.std.specs.Prelude.{All}
+use Rattle.mw_model.specs.declared.offsets.Offset.{Offset}
+use Rattle.mw_model.specs.Pictures.{Picture, sample, IsSet}
+use Rattle.mw_model.specs.Rasters.{Raster}
+use Rattle.mw_pixel.specs.Images.{set_of}
+use Rattle.mw_geodesic.specs.Neighbours.{IsPlace, neighbours_of}
+use Rattle.mw_geodesic.specs.declared.neighbours.Neighbours.{Neighbours}
+use Rattle.mw_geodesic_runs.specs.declared.runs.Run.{Run}
+use Rattle.mw_geodesic_runs.specs.Runs.{InSomeRun, RunsBefore}
+use Rattle.mw_geodesic_runs.specs.Forests.{NumbersClasses}
+use Rattle.mw_geodesic_runs.specs.Touching.{columns_reached, Agree, IsForestOf, AreNumbered}
+use Rattle.mw_geodesic_runs.specs.Components.{AreComponents}
+use Rattle.mw_geodesic_runs.proofs.Numbered.{numbers_respect, one_colour}
+use Rattle.mw_geodesic_runs.proofs.Sides.{neighbours_agree}
+use Rattle.mw_geodesic_runs.proofs.Joinings.{colour_of, colours_agree, joined_by_colour}
+
+pub are_components : (n : Neighbours) (f : Picture) (runs : List Run) (parent numbers : List ℕ) (count : ℕ) → IsSet f → RunsBefore f 0 f.height runs → IsForestOf (columns_reached n) runs parent
+    → NumbersClasses parent (length parent) numbers count → AreComponents (neighbours_of n) f runs numbers count
+are_components n f runs parent numbers count is_set before forest is =
+    let size = forest.size in
+    let agree : Agree (columns_reached n) runs 0 (length runs) (λ i. get_or numbers i 0) = forest.back (λ i. get_or numbers i 0) (numbers_respect parent numbers (length parent) count (omega arith) is) in
+    let respects = forest.on (colour_of n f runs) (colours_agree n f runs is_set before) in
+    record {
+      set = is_set;
+      cut = before;
+      size = is.size ∙ size;
+      some = λ i lt. is.some i (omega arith);
+      most = λ i lt. is.most i (omega arith);
+      near = λ i j x y u v lt lt' one other covers. neighbours_agree n runs (λ i. get_or numbers i 0) i j x y u v before.order agree lt lt' one other covers;
+      joined = λ i j x y u v lt lt' one other same.
+          joined_by_colour n f runs i j x y u v is_set before lt lt' one other (one_colour parent numbers (colour_of n f runs) count i j forest.forest is respects (omega arith) (omega arith) same);
+      steps = λ i lt two k one. is.steps i (omega arith) two k one;
+      top = λ one. let top = is.top one in let at = top.before in record { at = top.at; before = omega arith; is = top.is };
+    }
+
+-- the run of a place of the set
+pub held : (e : List Offset) (f : Picture) (runs : List Run) (numbers : List ℕ) (count x y : ℕ) → AreComponents e f runs numbers count → IsPlace f x y → sample f x y ≡ 1 → InSomeRun runs x y
+held e f runs numbers count x y are place one = are.cut.all x y place.column (inl place.row) one
+
+pub set_is : (p : Raster ℕ) → length p.cells ≡ p.height * p.width → All (λ s. s ≤ 1) p.cells → IsSet (set_of p)
+set_is p size small = record { picture = record { size = size; bounded = small }; kind = refl; maxval = refl }
+
+pub components_by : (n : Neighbours) (f : Picture) (runs runs' : List Run) (numbers numbers' : List ℕ) (count reach : ℕ) → IsSet f → RunsBefore f 0 f.height runs → runs' ≡ runs → numbers' ≡ numbers → reach ≡ columns_reached n → AreNumbered reach runs' numbers count
+    → AreComponents (neighbours_of n) f runs numbers' count
+components_by n f runs runs' numbers numbers' count reach is_set before same same_numbers near told =
+    let told' : AreNumbered (columns_reached n) runs numbers count = subst (λ (t : ℕ). AreNumbered t runs numbers count) near (subst (λ (t : List Run). AreNumbered reach t numbers count) same told) in
+    subst (λ (t : List ℕ). AreComponents (neighbours_of n) f runs t count) (sym same_numbers) (are_components n f runs told'.parent numbers count is_set before told'.forest told'.numbering)

@@ -1,0 +1,6 @@
+-- the crate's own
+mod Bests
+mod Columns
+mod Puts
+mod LineCells
+mod Vectors

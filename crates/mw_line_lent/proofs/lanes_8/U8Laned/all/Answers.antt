@@ -1,0 +1,5 @@
+use Rattle.mw_line_lent.proofs.Vectors.{filled_lane}
+use Rattle.mw_line_lent.proofs.lanes_8.U8Laned.all.Goals as goal
+
+pub returns : goal.returns
+returns c = λ i lt. filled_lane 32 c.args.sample i lt

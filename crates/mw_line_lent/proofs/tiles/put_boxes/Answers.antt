@@ -1,0 +1,13 @@
+use Rattle.std.proofs.Common.{◌≡◌, ℕ, ◌+◌, ◌-◌, ◌*◌, List, get_or, length, replicate, ap, ◌∙◌}
+use Rattle.std.proofs.lemmas.List.{length-replicate}
+use Rattle.mw_model.proofs.mw_facts.Elements.{get_or-replicate_same}
+use Rattle.mw_line_lent.proofs.LineCells.{blank_first}
+use Rattle.mw_line_lent.proofs.tiles.put_boxes.Goals as goal
+
+pub put_all-requires-clause-blank : goal.put_all-requires-clause-blank
+put_all-requires-clause-blank g c =
+    let b = c.args.boxes in
+    let n = c.args.neutral in
+    let count : ℕ = 4 * (b.width + (b.across - 1)) in
+    let is : c.as_mut_slice.result.now ≡ replicate count n = c.as_mut_slice.ensures.value ∙ c.in_ok-lines.ensures in
+    blank_first n b c.as_mut_slice.result.now (ap length is ∙ length-replicate count n) (λ p. ap (λ (t : List g.row.P.Denot). get_or t p n) is ∙ get_or-replicate_same count p n)

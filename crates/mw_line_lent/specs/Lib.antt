@@ -1,0 +1,3 @@
+pub mod Bests
+pub mod Parts
+pub mod Boxes

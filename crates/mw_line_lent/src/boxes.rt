@@ -1,0 +1,61 @@
+//! Boxes on places of what is lent, and which columns of theirs it has.
+ghost use Rattle.std.specs.Prelude.{◌≡◌, ◌+◌, ◌-◌, ◌<◌, ◌≤◌, IsTrue};
+ghost use Rattle.mw_line_lent.specs.Parts.{IsOverlap};
+ghost use Rattle.mw_line_lent.specs.Boxes.{IsSuited};
+
+use crate::lanes::Laned;
+
+/// The cells of a line that a place has: `count` after the `behind` first ones of the line, from column `ahead` of the place on.
+#[derive(Clone, Copy)]
+pub(crate) struct Part {
+    pub ahead: usize,
+    pub behind: usize,
+    pub count: usize,
+}
+
+/// At each place the extremum of `across` by `down` cells from one on, which for the first place stands in this column and row of
+/// the place that is lent; there are `width` places in each of `height` rows.
+#[derive(Clone, Copy)]
+pub(crate) struct Boxes {
+    pub column: i64,
+    pub row: i64,
+    pub across: usize,
+    pub down: usize,
+    pub width: usize,
+    pub height: usize,
+    pub part: Part,
+}
+
+/// The part that a side of `size` cells has of a run of `long` cells, of which the first one has this number.
+pub(crate) fn part_of(first: i64, long: usize, size: u32) -> Part
+    ensures { IsOverlap first long size result }
+{
+    let away = first.unsigned_abs() as usize;
+    let size = size as usize;
+    if first < 0 {
+        let behind = away.min(long);
+        return Part {
+            ahead: 0,
+            behind,
+            count: size.min(long - behind),
+        };
+    }
+    let ahead = away.min(size);
+    Part {
+        ahead,
+        behind: 0,
+        count: (size - ahead).min(long),
+    }
+}
+
+/// The longest side of boxes that are made here: by longer ones more is merged than by doubling.
+const LONGEST: usize = 256;
+
+/// Whether these boxes are made here.
+pub(crate) fn is_suited<P: Laned>(boxes: Boxes) -> bool
+    ensures { IsTrue result → IsSuited P.WIDTH boxes }
+{
+    let across = boxes.across > 0 && boxes.across <= LONGEST;
+    let down = boxes.down > 0 && boxes.down <= LONGEST;
+    across && down && boxes.width >= P::WIDTH && boxes.part.count >= P::WIDTH
+}

@@ -1,0 +1,7 @@
+-- the crate's own
+mod Seen
+mod Lines
+mod Puts
+mod Middle
+-- what lower crates offer
+pub use Rattle.mw_rank_medians.proofs.mw_rank as mw_rank

@@ -1,0 +1,5 @@
+pub mod Lines
+pub mod Middles
+-- what lower crates offer
+pub mod mw_rank
+pub mod mw_tile
