@@ -140,14 +140,13 @@ demo: toolchain python3
 	@python3 examples/demo.py proved
 
 memory: toolchain python3 compiler
-	@python3 -B checks/prove.py morphd test_kernels test_c test_core test_geodesic test_pool
+	@python3 -B checks/prove.py morphd test_kernels test_c test_core test_pool
 	@python3 -B checks/refused_memory.py $(MORPHD)
 	@python3 -B checks/fetch_memory.py $(MORPHD)
 	@python3 -B checks/set_memory.py $(MORPHD)
 	@python3 -B checks/refused_tests.py crates/test_kernels/out/test_kernels_tests
 	@python3 -B checks/refused_tests.py crates/test_c/out/test_c_tests
 	@python3 -B checks/refused_tests.py crates/test_core/out/test_core_tests
-	@python3 -B checks/refused_tests.py crates/test_geodesic/out/test_geodesic_tests
 	@python3 -B checks/refused_tests.py crates/test_pool/out/test_pool_tests
 	@python3 -B checks/passed.py $@ $(BEGUN)
 
@@ -160,6 +159,7 @@ soak: toolchain python3
 	@python3 -B checks/bad_peers.py $(MORPHD)
 	@python3 -B checks/bad_peers_serve.py $(MORPHD)
 	@python3 -B checks/kept_memory.py $(MORPHD)
+	@python3 -B checks/session_memory.py $(MORPHD)
 	@python3 -B checks/soak.py $(MORPHD) $(FOR) $(SEED)
 	@python3 -B checks/soak_listen.py $(MORPHD) $(FOR) $(SEED)
 	@python3 -B checks/soak_serve.py $(MORPHD) $(FOR) $(SEED)
@@ -171,17 +171,12 @@ races: toolchain python3 compiler valgrind library
 	@python3 -B checks/races.py $(MORPHD) out/libmorphd.so
 	@python3 -B checks/passed.py $@ $(BEGUN)
 
-# Best on a machine that does nothing else: each line is the best of five runs in one thread (of the core and the board
-# the best of three, of the board also with workers). The C library is told to keep what is freed, so that copies, reads and writes
-# alike find memory that the system has given already. Without words, as where they are built, the programs end at once.
-KEEP = MALLOC_MMAP_MAX_=0 MALLOC_TRIM_THRESHOLD_=17179869184
-
+# Best on a machine that does nothing else: each line is the best of some runs. Where no library is linked, its calls are left out.
 bench: toolchain python3
-	@python3 -B checks/prove.py morphd bench_parts
-	$(KEEP) crates/bench_parts/out/bench_parts measure files
-	$(KEEP) crates/bench_parts/out/bench_parts measure all
-	crates/bench_parts/out/bench_parts measure core
-	crates/bench_parts/out/bench_parts measure board
+	@python3 -B checks/prove.py morphd
+	python3 -B bench/parts.py $(MORPHD)
+	@test -f out/libmorphd.so || echo "the library's calls were not timed (make library)" >&2
+	test ! -f out/libmorphd.so || /usr/bin/python3 bench/library.py out/libmorphd.so
 	python3 bench/command.py $(MORPHD)
 	python3 -B bench/operations.py $(MORPHD)
 	python3 bench/workers.py $(MORPHD)

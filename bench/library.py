@@ -1,6 +1,7 @@
 #!/usr/bin/python3
-"""Times libmorphd beside OpenCV, both in one thread and by turns in one run, on images of 4096 x 4096, with the samples of
-bench_parts. The best of so many rounds counts, by the time of the processor; both write into an array that is there already.
+"""Times libmorphd beside OpenCV, both in one thread and by turns in one run, on images of 4096 x 4096 and of 1024 x 1024, with the
+samples of bench/peers.py. The best of so many rounds counts, by the time of the processor, and of small images of four times as many;
+both write into an array that is there already.
 
     /usr/bin/python3 bench/library.py LIBRARY.. [ROUNDS [WORD]]
     /usr/bin/python3 bench/library.py LIBRARY.. memory [WORD]
@@ -9,9 +10,10 @@ bench_parts. The best of so many rounds counts, by the time of the processor; bo
 A LIBRARY is a path, as out/libmorphd.so, in the build that this processor and MORPHD_CPU pick, or a path with @v2 or @v3 behind it,
 in that build. It is told which build runs. Several libraries run by turns: both builds of one, or those of two commits.
 
-With a word only the lines that have it are timed. With `memory` it tells instead how much memory a call takes beyond the
-caller's arrays, and how often it waits for a page, from a heap that is empty. With `alone` it only calls libmorphd, for who
-counts where the time goes. It needs a Python with cv2 (Debian: python3-opencv).
+With a word only the lines that have it are timed, and with a side, as 1024, those of that side: a line is told as `1024 u8 erosion, box
+of 3`. With `memory` it tells instead how much memory a call on the larger images takes beyond the caller's arrays, and how often it
+waits for a page, from a heap that is empty. With `alone` it only calls libmorphd, for who counts where the time goes. It needs a
+Python with cv2 (Debian: python3-opencv).
 """
 import ctypes
 import os
@@ -27,10 +29,11 @@ import cv2
 import numpy
 from peers import SIDE, disc, levels, rectangle
 
-ERODE, OPEN, GRADIENT, RANK = 0, 2, 4, 7
+ERODE, OPEN, CLOSE, GRADIENT, WHITE_TOP_HAT, RANK = 0, 2, 3, 4, 5, 7
 NUMBER, LENGTH, POINTER = ctypes.c_uint32, ctypes.c_size_t, ctypes.c_void_p
 ARRAY, ELEMENT = [POINTER, LENGTH], [POINTER, LENGTH] + [NUMBER] * 4
 LEVELS = {"u8": [ctypes.c_uint8], "u16": [ctypes.c_uint16], "set": []}
+SIDES = (SIDE, 1024)
 
 
 def opened(told):
@@ -67,22 +70,40 @@ def flat(library, kind):
     return run
 
 
+def erosions():
+    """The elements of the erosions that are timed, by their names."""
+    boxes = {f"box of {side}": rectangle(side) for side in (3, 5, 9, 15, 63)}
+    discs = {f"disc of {side}": disc(side) for side in (5, 7, 15, 31)}
+    return boxes | discs | {"diagonal of 41": numpy.eye(41, dtype=numpy.uint8)}
+
+
+def filters():
+    """The elements of the openings and closings that are timed, by their names."""
+    return {f"box of {side}": rectangle(side) for side in (3, 5, 15)} | {"disc of 15": disc(15)}
+
+
+def as_in_opencv(operation):
+    """What makes in OpenCV what an operation is there."""
+    return lambda f, e, out: cv2.morphologyEx(f, operation, e, dst=out)
+
+
 def lines():
     """What is timed: its name, the kind of samples, the operation with its k, the element, and what OpenCV does."""
     for kind in ("u8", "u16"):
-        for name, element in (("box of 3", rectangle(3)), ("box of 15", rectangle(15)), ("box of 63", rectangle(63)),
-                              ("disc of 5", disc(5)), ("disc of 15", disc(15)), ("disc of 31", disc(31))):
-            yield f"erosion, {name}", kind, ERODE, 0, element, lambda f, e, out: cv2.erode(f, e, dst=out)
-        for name, element in (("disc of 15", disc(15)), ("box of 15", rectangle(15))):
-            yield f"opening, {name}", kind, OPEN, 0, element, lambda f, e, out: cv2.morphologyEx(f, cv2.MORPH_OPEN, e, dst=out)
-        yield ("gradient, box of 3", kind, GRADIENT, 0, rectangle(3),
-               lambda f, e, out: cv2.morphologyEx(f, cv2.MORPH_GRADIENT, e, dst=out))
+        for name, element in erosions().items():
+            yield f"erosion, {name}", kind, ERODE, 0, element, as_in_opencv(cv2.MORPH_ERODE)
+        for name, element in filters().items():
+            yield f"opening, {name}", kind, OPEN, 0, element, as_in_opencv(cv2.MORPH_OPEN)
+            yield f"closing, {name}", kind, CLOSE, 0, element, as_in_opencv(cv2.MORPH_CLOSE)
+        yield "top-hat, disc of 63", kind, WHITE_TOP_HAT, 0, disc(63), as_in_opencv(cv2.MORPH_TOPHAT)
+        yield "gradient, box of 3", kind, GRADIENT, 0, rectangle(3), as_in_opencv(cv2.MORPH_GRADIENT)
     # OpenCV has medians of 16 bits under these two squares alone
     for kind, sides in (("u8", (3, 5, 15)), ("u16", (3, 5))):
         for side in sides:
             yield (f"median, box of {side}", kind, RANK, (side * side + 1) // 2, rectangle(side),
                    lambda f, e, out: cv2.medianBlur(f, len(e), dst=out))
-    yield "opening, disc of 15", "set", OPEN, 0, disc(15), lambda f, e, out: cv2.morphologyEx(f, cv2.MORPH_OPEN, e, dst=out)
+    for name, element in (("disc of 15", disc(15)), ("box of 15", rectangle(15))):
+        yield f"opening, {name}", "set", OPEN, 0, element, as_in_opencv(cv2.MORPH_OPEN)
 
 
 def milliseconds(run):
@@ -139,9 +160,16 @@ def call_alone(library, images, wanted):
         print(f"{kind} {name}: {min(milliseconds(lambda: run(operation, k, image, element, out)) for _ in range(100)):.1f} ms")
 
 
-def tell_times(libraries, images, wanted, rounds):
+def images_of(side):
+    """The images of a side, by the kind of their samples."""
+    samples = levels()[:side, :side].copy()
+    return {"u8": samples.astype(numpy.uint8), "u16": samples, "set": (samples % 10 != 0).astype(numpy.uint8)}
+
+
+def tell_times(libraries, side, wanted, rounds):
+    images = images_of(side)
     each = range(1, len(libraries) + 1) if len(libraries) > 1 else [""]
-    print(f"OpenCV {cv2.__version__}, one thread each, {SIDE} x {SIDE}, the best of {rounds} by turns, in milliseconds")
+    print(f"OpenCV {cv2.__version__}, one thread each, {side} x {side}, the best of {rounds} by turns, in milliseconds")
     print("| samples | what |", *(f"libmorphd{f' {it}' if it else ''} |" for it in each), "OpenCV |",
           *(f"{f'{it} ' if it else ''}times OpenCV's |" for it in each), "the same |")
     for name, kind, operation, k, element, theirs in wanted:
@@ -165,15 +193,13 @@ def main():
         print(f"libmorphd{f' {number}' if len(given) > 1 else ''}: {name}")
         libraries.append(library)
     cv2.setNumThreads(1)
-    samples = levels()
-    octets = samples.astype(numpy.uint8)
-    images = {"u8": octets, "u16": samples, "set": (samples % 10 != 0).astype(numpy.uint8)}
-    wanted = [line for line in lines() if word in f"{line[1]} {line[0]}"]
-    if first in ("memory", "alone"):
-        for library in libraries:
-            (tell_memory if first == "memory" else call_alone)(library, images, wanted)
-    else:
-        tell_times(libraries, images, wanted, int(first))
+    for side in SIDES:
+        wanted = [line for line in lines() if word in f"{side} {line[1]} {line[0]}"]
+        if first not in ("memory", "alone"):
+            tell_times(libraries, side, wanted, int(first) * (SIDES[0] // side))
+        elif side == SIDE:
+            for library in libraries:
+                (tell_memory if first == "memory" else call_alone)(library, images_of(side), wanted)
 
 
 if __name__ == "__main__":

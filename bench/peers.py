@@ -1,9 +1,9 @@
-"""Times OpenCV and Leptonica on what bench_parts measures, on the same samples and in one thread: erosions and medians
+"""Times OpenCV and Leptonica on what bench/library.py times of libmorphd, on the same samples and in one thread: erosions and medians
 of 4096 x 4096 bytes, dilations and medians of as many 16-bit samples, and erosions and a majority of a set.
 
 Run it with a Python that has cv2 (Debian: python3-opencv), beside Leptonica's library (Debian: libleptonica-dev), which
-takes sets. Each line has the best of five runs. The C library keeps what is freed, as the Makefile tells it to for
-bench_parts: else each result of 16-bit samples, of 32 MiB, would be in pages that the system gives anew.
+takes sets. Each line has the best of five runs. The C library keeps what is freed:
+else each result of 16-bit samples, of 32 MiB, would be in pages that the system gives anew.
 """
 import ctypes
 import ctypes.util
@@ -31,7 +31,7 @@ def keep_freed_memory():
 
 
 def levels():
-    """The levels that bench_parts makes its images of, one a pixel, by rows: the upper 16 bits of each state of the
+    """The levels that the images are made of, one a pixel, by rows: the upper 16 bits of each state of the
     generator s -> 1664525 s + 1013904223 (mod 2^32) after state 1. Its bytes are their lower 8 bits, and its set has
     the pixels whose level is no multiple of 10."""
     states = numpy.array([1664525 + 1013904223], numpy.uint32)
@@ -45,7 +45,7 @@ def levels():
 
 
 def disc(across):
-    """The places within half of `across` of the middle, as bench_parts has them."""
+    """The places within half of `across` of the middle."""
     radius = across // 2
     y, x = numpy.mgrid[-radius : radius + 1, -radius : radius + 1]
     return (x * x + y * y <= radius * radius).astype(numpy.uint8)

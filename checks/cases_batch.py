@@ -4,11 +4,14 @@ whatever becomes of its ends. Each case takes the program, and stops by `Wrong` 
 import os
 import pathlib
 import random
+import shutil
 import subprocess
+import tempfile
 import time
 
 import ends
 import reference_model
+import refused_memory
 import soak
 from ends import ALONE, PATIENCE, Left
 from peers import ERODE, GIVEN, Wrong, must_be
@@ -288,6 +291,49 @@ def batch_has_its_workers_and_tiles(program):
         must_be(threads_of_batch(program, words), wanted, "the threads of a batch %s" % " ".join(words))
 
 
+def shared(picture, described, element, *works):
+    """A session in which workers share these works, and its replies."""
+    session = refused_memory.loaded(b"f", picture) + element + b"".join(b"RUN w%d %s\n" % (n, work) for n, work in enumerate(works))
+    session += b"".join(b"STATUS w%d\n" % n for n in range(len(works))) + b"QUIT\n"
+    replies = [b"OK %d\n" % n for n in range(2 + len(works))] + [b"DONE %d %s\n" % (2 + n, described) for n in range(len(works))]
+    return session, b"".join(replies)
+
+
+def samples(width, height, maxval):
+    """Levels of one or of two bytes."""
+    size = 1 if maxval < 256 else 2
+    return b"P5\n%d %d\n%d\n" % (width, height, maxval) + bytes(range(250)) * (size * width * height // 250)
+
+
+# What workers share, each with the side of its tiles, how many they are, and the fewest starts of threads. The last one has more tasks
+# than two workers take at once, so the others are shared in a second wave.
+SHARED = (
+    (shared(samples(250, 250, 65535), b"GREY 250 250 65535", refused_memory.CROSS, b"ERODE f b"), 64, 4, 1),
+    (shared(samples(250, 250, 255), b"GREY 250 250 255", refused_memory.square(b"b", 3), b"RANK f b 9"), 64, 4, 3),
+    (shared(refused_memory.SET, b"BIT 260 200 1", refused_memory.sieve(b"b", 51), b"DILATE f b"), 64, 4, 1),
+    (shared(samples(2000, 1000, 255), b"BIT 2000 1000 1", refused_memory.CROSS, b"THRESHOLD f 100"), 1024, 2, 1),
+    (shared(samples(2000, 2000, 255), b"GREY 2000 2000 255", refused_memory.square(b"b", 3), b"RANK f b 1", b"RANK f b 5"), 64, 2, 2),
+)
+
+
+def work_of_each_kind_is_shared(program):
+    """Threads are started for work that is worth it, and nothing is made twice: then more would be asked for. The starts are counted by a
+    library that a C compiler makes; where there is none, nothing is looked at."""
+    if not shutil.which("cc"):
+        return
+    refused_memory.built_refuser()
+    with tempfile.TemporaryDirectory() as folder:
+        for (session, replies), side, workers, least in SHARED:
+            made, alone = (refused_memory.run(program, ["--tile", str(side), "--workers", str(it)], session, os.path.join(folder, "count"))
+                           for it in (workers, 1))
+            what = "work by %d workers in tiles of %d" % (workers, side)
+            must_be((made.status, made.written, made.told), (0, replies, b""), what)
+            must_be((alone.status, alone.written, alone.starts), (0, replies, 0), what + ", by one worker")
+            if made.starts < least or made.calls > 1.2 * alone.calls + 200:
+                raise Wrong("%s starts %d threads in the place of %d, and asks for memory %d times beside %d by one worker"
+                            % (what, made.starts, least, made.calls, alone.calls))
+
+
 def strict_sessions(program):
     """With `--strict` a refused request makes the status 3 in the place of 0."""
     for session, output, status in ((ERODE, OUTPUT, 0), (b"STATUS x\nload\n", b"ERR 41 UNKNOWN\nERR 10 LINE\n", 1),
@@ -300,4 +346,4 @@ CASES = (worked_sessions_are_the_models, worked_sessions_in_pieces, lines_that_a
          every_prefix_of_a_session, a_reader_that_fails_anywhere, a_reader_that_cannot_be_read, a_reader_that_is_interrupted,
          a_writer_that_fails_anywhere, a_writer_that_takes_nothing, a_writer_that_takes_parts, as_many_entries_as_there_may_be,
          quit_stops_reading, each_answer_comes_before_the_next_read, a_thousand_lines_at_once, scripts_by_several_workers,
-         batch_has_its_workers_and_tiles, strict_sessions)
+         batch_has_its_workers_and_tiles, work_of_each_kind_is_shared, strict_sessions)

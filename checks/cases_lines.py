@@ -66,6 +66,12 @@ FAULTS = {
     "serve --grace 86401 --status 0": "error: grace must be from 1 to 86400",
     "serve --status 0": "error: status must be from 1 to 65535",
     "serve --status 65536": "error: status must be from 1 to 65535",
+    "serve --status 0 --time 0": "error: status must be from 1 to 65535",
+    "serve --time 0": "error: time must be from 1 to 86400",
+    "serve --time 86401": "error: time must be from 1 to 86400",
+    "serve --time 0 --memory 0": "error: time must be from 1 to 86400",
+    "serve --memory 0": "error: memory must be from 1 to 1048576",
+    "serve --memory 1048577": "error: memory must be from 1 to 1048576",
 }
 
 
@@ -103,7 +109,8 @@ def words_that_are_taken(program):
         must_be(ran(program, line), (0, b"", b""), "morphd " + line)
     for line in ("serve --until-end", "serve --workers 64 --sessions 1024 --tile 64 --idle 86400 --until-end",
                  "serve --port 0 --sessions 1 --idle=1 --until-end", "serve --queue 1 --grace=1 --until-end",
-                 "serve --queue 1024 --grace 86400 --until-end"):
+                 "serve --queue 1024 --grace 86400 --until-end", "serve --time 1 --until-end", "serve --time=86400 --until-end",
+                 "serve --memory 1 --until-end", "serve --memory=1048576 --until-end"):
         status, output, faults = ran(program, line)
         must_be((status, output.count(b"\n"), faults), (0, 1, b""), "morphd " + line)
 

@@ -188,6 +188,6 @@ def test(folder, built, room):
             count += 1
     one = dist.Dist(folder, built, room)
     told = list(dist.of_installing(one, "help"))
-    if not any("leaves opt/m/bin/morphd" in it for it in told):
+    if not any("leaves prefix/bin/morphd" in it for it in told):
         sys.exit(f"installing: what stays is not told, but {told}")
     print(f"each of {count + 1} spoiled things is told")

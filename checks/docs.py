@@ -339,7 +339,7 @@ SPOILED = [
     ("docs/dev/CRATES.md", "| `mw_model` ", "| `mw_modell` ", "tables"),
     ("docs/dev/TESTS.md", "| `test_c` ", "| `trial_c` ", "tables"),
     ("docs/dev/DESIGN.md", "mw_core_waves ", "mw_wall ", "tables"),
-    ("docs/dev/SEARCH.md", "| `mw_pool` ", "| `mw_pond` ", "search"),
+    ("docs/dev/SEARCH.md", "| `mw_pool`, ", "| `mw_pond`, ", "search"),
     ("docs/dev/CRATES.md", "`say_fetched`", "`run_script`", "definitions"),
     ("docs/dev/DEFINITIONS.md", "`IsPicture`", "`IsFigure`", "definitions"),
     ("docs/PROOFS.md", "`mw_batch::batch`", "`mw_batch::patch`", "names"),

@@ -5,7 +5,7 @@ built programs that are named: in a minute or two, so the gate makes it.
     python3 -B checks/fixed_soaks.py crates/morphd/out/morphd [PROGRAM..]
 
 Each session of `morphd batch` is held, byte for byte, against the reference model (checks/reference_model.py) or what is known in closed
-form (checks/full_size.py). At a board 64 clients work at once, and each image and curve that comes is held against the plain
+form (checks/full_size.py, checks/large_forms.py). At a board 64 clients work at once, and each image and curve that comes is held against the plain
 definitions. It begins by spoiling what each program writes, and stops where it does not notice that. A program that does
 not end is told after LONGEST seconds.
 """
@@ -16,6 +16,7 @@ import sys
 import time
 
 import full_size
+import large_forms
 import reference_model
 import soak
 import soak_listen
@@ -121,7 +122,7 @@ def chain_cases():
 
 
 def large_cases():
-    for name, make, sides in full_size.CASES:
+    for name, make, sides in (*full_size.CASES, *large_forms.CASES):
         data, wanted = make()
         for side in sides:
             yield Case("%s, tiles of %d" % (name, side), data, wanted, 0, ["--tile", str(side), "--workers", "2"])

@@ -1,9 +1,10 @@
 """How much memory calls of the library take beyond the caller's arrays, and how often they ask for some: counted by
 checks/counted_calls.c, and held against what may be.
 
-A call by strips takes what one strip needs, and no more on a picture four times as high. A filter takes a plane besides, at one
-go, and all others a few, however many levels there are. A call that asks more often does something anew for each row or strip
-that it could have kept. All ask before they write the first sample, and answer 50 where they get nothing.
+A call by strips takes what one strip needs, and no more on a picture four times as high; one of rows where they stand a few lines, and a
+filter by a narrow rectangle a strip. Other filters take a plane besides, at one go, and all others a few, however many levels there are. A
+call that asks more often does something anew for each row or strip that it could have kept. All ask before they write the first sample, and
+answer 50 where they get nothing.
 """
 import sys
 
@@ -13,23 +14,23 @@ ASKS = 1.15
 # which it may exceed by the factor ASKS; and how many bytes it held then.
 STRIP = 2 * MIB
 MOST = {
-    "erosion_u8_box_15": (0, STRIP, 303, 1971304),
-    "erosion_u8_box_15_again": (0, STRIP, 87, 1967232),
+    "erosion_u8_box_15": (0, MIB / 8, 8, 25808),
+    "erosion_u8_box_15_again": (0, MIB / 8, 8, 25808),
     "erosion_u8_disc_31": (0, STRIP, 555, 1969296),
     # a strip of 16 rows of 8192 pixels wants 254 rows besides
     "dilation_u8_disc_255": (0, 5 * MIB, 467, 4833840),
     "dilation_u16_disc_255": (0, 10 * MIB, 467, 9457232),
     "erosion_set_box_255": (0, 2.25 * MIB, 99, 2228352),
     "gradient_u16_box_3": (0, STRIP, 1549, 1966272),
-    "rank_u8_box_5": (0, STRIP, 266, 1966336),
+    "rank_u8_box_5": (0, MIB / 8, 51, 54416),
     "rank_u16_disc_31": (0, STRIP, 169, 1969296),
     "rank_set_box_15": (0, STRIP, 249, 1967232),
     "rank_u8_box_101": (0, STRIP, 66, 2007808),
     "rank_u16_box_101": (0, STRIP, 102, 2007808),
-    "rows_u8_box_15": (0, STRIP, 159, 1967232),
+    "rows_u8_box_15": (0, MIB / 8, 8, 25808),
     "threshold_u16": (0, STRIP, 449, 1966088),
-    "opening_u8_box_15": (1, STRIP, 596, 10361048),
-    "opening_u8_box_255": (1, 3 * MIB, 2328, 11134056),
+    "opening_u8_box_15": (0, MIB / 2, 12, 347888),
+    "opening_u8_box_255": (1, 3 * MIB, 1169, 11134056),
     "white_top_hat_u16_disc_31": (2, STRIP, 1028, 10361104),
     # the plane has a bit a pixel
     "closing_set_disc_15": (1 / 8, STRIP, 165, 3016376),
@@ -39,23 +40,23 @@ MOST = {
     "skeleton_254_levels": (2.75, 0, 4148, 11066848),
     "restore_254_levels": (1.5, 0, 4214, 5840280),
     "spectrum_u8_32_levels": (4, MIB / 2, 20846, 4372040),
-    # of what grains are measured by 6 bytes are wanted, and 8 of area operators on levels; beside them stand 4 bytes for each level. What is
-    # gathered of each component of a set is over that
+    # of what grains are measured by 6 bytes are wanted, and 8 of area operators on levels; beside them stand 4 bytes for each level. Regions
+    # of sets with many components are over that
     "reconstruction_u8": (6, MIB / 2, 10, 25219680),
     "reconstruction_u16": (6, MIB / 2, 10, 25493608),
-    "reconstruction_set": (6.5, MIB / 2, 13, 53481672),
+    "reconstruction_set": (4.375, MIB / 2, 16, 36708480),
     "fill_u8": (6, MIB / 2, 10, 25216104),
     "fill_u16": (6, MIB / 2, 10, 25493624),
-    "clear_border_set": (6.375, MIB / 2, 10, 52433008),
+    "clear_border_set": (4.25, MIB / 2, 13, 35659880),
     "h_minima_u8": (6, MIB / 2, 10, 25215960),
     "regional_minima_u16": (6, MIB / 2, 12, 25493608),
-    "label_four": (6.25, MIB / 2, 7, 51384384),
-    "label_eight": (6.25, MIB / 2, 7, 51384400),
-    "regions_eight": (6.25, MIB / 2, 8, 51384440),
-    "components_eight": (6.25, MIB / 2, 8, 51384440),
+    "label_four": (4.25, MIB / 2, 10, 34676848),
+    "label_eight": (4.25, MIB / 2, 10, 34676864),
+    "regions_eight": (4.25, MIB / 2, 11, 34676864),
+    "components_eight": (4.25, MIB / 2, 11, 34676864),
     "area_opening_u8": (8, MIB / 2, 7, 8389736),
     "area_closing_u16": (8, MIB / 2, 7, 8650840),
-    "area_set": (8.75, MIB / 2, 11, 73404504),
+    "area_set": (6, MIB / 2, 11, 50339912),
     "distance_city_block": (4.25, MIB / 2, 3, 34623488),
     "distance_chessboard": (4.25, MIB / 2, 3, 34623488),
     "distance_squared_euclid": (4.25, MIB / 2, 5, 34656272),

@@ -5,11 +5,12 @@
     python3 -B checks/races.py --threads INSTRUMENTED     the second half alone, by a program that checks/instrumented.py made
     python3 -B checks/races.py --test        sees that both ways tell a race and a lock that is left, and not an ordered access
 
-By Debian's helgrind, on what is built: a batch of four workers, and calls of the library from two threads (checks/shared_calls.c), which
+By Debian's helgrind, on what is built: batches of four workers, and calls of the library from two threads (checks/shared_calls.c), which
 are spoiled once to see that it is told. These share nothing but the starts and ends of threads. What threads of a server share lies behind
 locks of atomics and futexes, which helgrind takes for races, a thousand at a board. So by ThreadSanitizer, which knows atomics, on an unproved
-build of the same program (checks/instrumented.py): the batch, a board's session (`morphd listen`, three workers, clients that share
+build of the same program (checks/instrumented.py): the batches, a board's session (`morphd listen`, three workers, clients that share
 names) and a service's (`morphd serve`, two workers a session, clients at once). What comes back is compared with the reference model.
+The sessions of batches are those of checks/refused_memory.py, whose tasks are worth threads: small pictures start none.
 
 Any report fails but those of checks/races.txt, where each stands with its reason; one that no longer comes fails too.
 """
@@ -22,8 +23,10 @@ import tempfile
 import threading
 
 import instrumented
+import quick_model
 import random_session
 import reference_model
+import refused_memory
 import soak_listen
 from board_knowledge import Differs
 from peers import ERODED, Wrong, must_be
@@ -32,8 +35,9 @@ from server import NoAnswer, Server, Service
 ROOT = os.path.dirname(os.path.dirname(os.path.realpath(__file__)))
 # What ThreadSanitizer is not to tell: lines as `race:function`, each below its reason.
 EXPLAINED = f"{ROOT}/checks/races.txt"
-# How long a client waits for a reply, and a run for its end, in seconds: all is some fifty times as slow.
-PATIENCE = 400
+# How long a client waits for a reply, and a run for its end, in seconds: all is some fifty times as slow. More where a machine does much
+# else.
+PATIENCE = float(os.environ.get("PATIENCE", "400"))
 # How much of a log is told.
 TOLD = 6000
 
@@ -103,6 +107,9 @@ class Small(soak_listen.Small):
         return super().frame() if self.often(6) else (66, 65)
 
 
+SHARED = list(refused_memory.FOUR_WORKERS.values())
+
+
 def a_session(number):
     return random_session.written(random.Random("races %d" % number), Small)
 
@@ -123,6 +130,8 @@ def at_once(works):
         thread.join(PATIENCE)
     if faults:
         raise faults[0]
+    if any(thread.is_alive() for thread in threads):
+        raise NoAnswer("a client had not ended after %d s" % PATIENCE)
 
 
 def of_a_board(server, number):
@@ -150,9 +159,7 @@ def board(watch, program):
     watch.is_clean("a board of three workers and three clients")
 
 
-def of_a_service(service, number):
-    given = a_session(number)
-    wanted, _, _ = reference_model.served(given)
+def of_a_service(service, number, given, wanted):
     with service.connect(PATIENCE) as client:
         try:
             client.send(given)
@@ -160,23 +167,36 @@ def of_a_service(service, number):
         except (NoAnswer, OSError):
             # The session may end before all is sent.
             pass
-        must_be(client.rest(), wanted, "the replies of session %d" % number)
+        must_be(client.rest() == wanted, True, "whether the replies of session %d are those that are due" % number)
 
 
 def service(watch, program):
-    with Service(watch.watched(program), 3, workers=2, tile=64, idle=PATIENCE) as served:
+    # Every other session is worth threads. The model is asked before, since its quick ways are for one thread.
+    given = [a_session(number) if number % 2 else SHARED[number // 2] for number in range(8)]
+    wanted = [reference_model.served(it)[0] for it in given]
+    with Service(watch.watched(program), 3, workers=2, tile=64, idle=int(PATIENCE)) as served:
         for first in (0, 4):
-            at_once([lambda number=number: of_a_service(served, number) for number in range(first, first + 4)])
+            at_once([lambda number=number: of_a_service(served, number, given[number], wanted[number]) for number in range(first, first + 4)])
         must_be(served.end(PATIENCE), (0, b""), "the service's end")
     watch.is_clean("a service of two workers a session, and four clients at once")
 
 
 def batch(watch, program):
-    given = a_session(100)
-    words = [watch.watched(program), "batch", "--workers", "4", "--tile", "64"]
-    made = subprocess.run(words, input=given, capture_output=True, timeout=PATIENCE, check=False)
-    must_be(made.stdout, reference_model.served(given)[0], "what a batch writes")
-    watch.is_clean("a batch of four workers")
+    for name, given in refused_memory.FOUR_WORKERS.items():
+        words = [watch.watched(program), "batch", "--workers", "4", "--tile", "64"]
+        made = subprocess.run(words, input=given, capture_output=True, timeout=PATIENCE, check=False)
+        must_be(made.stdout == reference_model.served(given)[0], True, "whether a batch writes what is due, %s" % name)
+        watch.is_clean("a batch of four workers, %s" % name)
+
+
+def starts_threads(program):
+    """Stops where a session that is to be looked at starts no threads."""
+    refused_memory.built_refuser()
+    with tempfile.TemporaryDirectory() as room:
+        for name, given in refused_memory.FOUR_WORKERS.items():
+            made = refused_memory.run(program, ["--workers", "4", "--tile", "64"], given, f"{room}/count")
+            if made.starts < refused_memory.LEAST_STARTS:
+                sys.exit("races.py: the session %s starts %d threads by four workers" % (name, made.starts))
 
 
 # ---- the library
@@ -224,6 +244,7 @@ BODIES = {"ordered": "pthread_mutex_lock(&lock); count++; pthread_mutex_unlock(&
 
 
 def test():
+    instrumented.needs("threads")
     for kind, compiler in ((Helgrind, ["cc"]), (Sanitizer, ["clang", "-fsanitize=thread"])):
         with tempfile.TemporaryDirectory() as room:
             watch = kind(room)
@@ -241,7 +262,11 @@ def by_helgrind(words):
     with tempfile.TemporaryDirectory() as room:
         watch = Helgrind(room)
         for path in words:
-            library(watch, path) if path.endswith(".so") else batch(watch, os.path.abspath(path))
+            if path.endswith(".so"):
+                library(watch, path)
+            else:
+                starts_threads(os.path.abspath(path))
+                batch(watch, os.path.abspath(path))
 
 
 def by_sanitizer(program):
@@ -257,6 +282,7 @@ def by_sanitizer(program):
 
 def main():
     words = sys.argv[1:]
+    quick_model.install()
     if words == ["--test"]:
         test()
     elif words[:1] == ["--threads"] and len(words) == 2:

@@ -25,6 +25,7 @@ import sys
 import tempfile
 import time
 
+import quick_model
 import reference_model
 
 HERE = pathlib.Path(__file__).resolve().parent
@@ -41,21 +42,6 @@ SESSIONS = {
             b"STATUS e\nFETCH e\n",
     "two bytes": b"LOAD f 25\nP2\n5 1\n1000\n7 1000 0 3 4\n" + BAR + b"RUN d DILATE f b\nFETCH d\nFETCH f\nSTATUS d\n",
 }
-
-# Pictures of several tiles of side 64, so that four workers have tasks side by side: a grey one of 4 and a set of 6.
-WIDE = b"P5\n250 3\n9\n" + bytes((7 * x + 3 * y + x * y % 4) % 10 for y in range(3) for x in range(250))
-SET = b"P1\n130 70\n" + b"".join(b"0" if (x * y + x // 9) % 11 == 0 else b"1" for y in range(70) for x in range(130)) + b"\n"
-CROSS = b"ELEMENT b 1 1 17\nP1\n3 3\n010111010\n"
-FOUR_WORKERS = {
-    "steps": b"LOAD f %d\n%s" % (len(WIDE), WIDE) + BAR + b"RUN e ERODE f b\nRUN d DILATE e b\nRUN o OPEN f b\nFETCH d\n"
-             b"FETCH e\nFETCH o\nRUN g GRADIENT o b\nSTATUS g\nFETCH g\n",
-    "side by side": b"LOAD f %d\n%s" % (len(WIDE), WIDE) + CROSS + b"RUN a ERODE f b\nRUN c DILATE f b\nRUN d GRADIENT f b\n"
-                    b"RUN e CLOSE a b\nRUN g ERODE c b\nCANCEL c\nWAIT e\nFETCH a\nFETCH d\nFETCH g\nRELEASE a\n"
-                    b"FETCH e\nRUN h DILATE d b\nRELEASE d\nFETCH h\nSTATUS a\n",
-    "set": b"LOAD x %d\n%s" % (len(SET), SET) + CROSS + b"RUN o OPEN x b\nRUN c CLOSE x b\nFETCH o\nRUN e ERODE c b\n"
-           b"RELEASE o\nRELEASE x\nFETCH e\nSTATUS c\nQUIT\n",
-}
-
 
 def loaded(name, picture):
     return b"LOAD %s %d\n%s" % (name, len(picture), picture)
@@ -76,6 +62,11 @@ def square(name, side):
 def disc(name, side):
     """A disc without the pixel to the right of its origin."""
     return element(name, side, lambda x, y: x * x + y * y <= (side // 2) ** 2 and (x, y) != (1, 0))
+
+
+def sieve(name, side):
+    """Every second pixel of a square, the origin among them: so many runs that a tile under it is worth a thread of its own."""
+    return element(name, side, lambda x, y: (x + y) % 2 == 0)
 
 
 # Levels without a pattern, which have all 8 or 12 bits, and a set. Ranks of them under a few offsets are counted, under
@@ -103,14 +94,30 @@ SESSIONS.update({
                          b"RUN t THRESHOLD h 9\nRUN g HITMISS t b c\nFETCH h\nFETCH q\nSTATUS q\nFETCH t\nRELEASE t\n"
                          b"FETCH g\n",
 })
-FOUR_WORKERS.update({
+# Pictures of several tiles of side 64, a grey one of 16 and a set of 20, so that four workers have tasks side by side. Levels of two bytes
+# are worth a thread by a small element, and a set by a sieve or by ranks.
+WIDE = b"P5\n250 250\n999\n" + b"".join(((71 * x + 37 * y + x * y % 40) % 1000).to_bytes(2, "big") for y in range(250) for x in range(250))
+SET = b"P1\n260 200\n" + b"".join(b"0" if (x * y + x // 9) % 11 == 0 else b"1" for y in range(200) for x in range(260)) + b"\n"
+CROSS = b"ELEMENT b 1 1 17\nP1\n3 3\n010111010\n"
+# A pixel that neither a cross nor a sieve has.
+NEXT = b"ELEMENT d 0 0 12\nP1\n4 1\n0001\n"
+FOUR_WORKERS = {
+    "steps": loaded(b"f", WIDE) + BAR + b"RUN e ERODE f b\nRUN d DILATE e b\nRUN o OPEN f b\nFETCH d\nFETCH e\nFETCH o\n"
+             b"RUN g GRADIENT o b\nSTATUS g\nFETCH g\n",
+    "side by side": loaded(b"f", WIDE) + CROSS + b"RUN a ERODE f b\nRUN c DILATE f b\nRUN d GRADIENT f b\n"
+                    b"RUN e CLOSE a b\nRUN g ERODE c b\nCANCEL c\nWAIT e\nFETCH a\nFETCH d\nFETCH g\nRELEASE a\n"
+                    b"FETCH e\nRUN h DILATE d b\nRELEASE d\nFETCH h\nSTATUS a\n",
+    "set": loaded(b"x", SET) + sieve(b"s", 51) + CROSS + b"RUN o OPEN x s\nRUN c CLOSE x b\nFETCH o\nRUN e DILATE c s\n"
+           b"RELEASE o\nRELEASE x\nFETCH e\nSTATUS c\nQUIT\n",
     "ranks": loaded(b"f", WIDE) + loaded(b"x", SET) + square(b"b", 3) + b"RUN m RANK f b 5\nRUN n RANK x b 5\n"
              b"RUN l RANK n b 2\nFETCH l\nFETCH m\n",
-    "skeleton": loaded(b"x", SET) + CROSS + b"RUN s SKELETON x b 2\nRUN r RESTORE s b 2\nRUN q SPECTRUM x b 1\nFETCH s\n"
+    "skeleton": loaded(b"x", SET) + sieve(b"b", 51) + b"RUN s SKELETON x b 1\nRUN r RESTORE s b 1\nRUN q SPECTRUM x b 1\nFETCH s\n"
                 b"FETCH r\nFETCH q\n",
-    "sets of levels": loaded(b"f", WIDE) + CROSS + BESIDE + b"RUN h HITMISS f b c\nRUN t THRESHOLD f 5\n"
-                      b"RUN g HITMISS t b c\nFETCH h\nFETCH g\nSTATUS t\n",
-})
+    "sets of levels": loaded(b"f", WIDE) + CROSS + sieve(b"s", 51) + NEXT + b"RUN h HITMISS f b d\nRUN t THRESHOLD f 500\n"
+                      b"RUN g HITMISS t s d\nFETCH h\nFETCH g\nSTATUS t\n",
+}
+# So many starts of threads a session of these makes at least: by four workers three at once.
+LEAST_STARTS = 3
 LISTENED = FIVE + BAR + b"RUN e ERODE f b\nWAIT e\nFETCH e\nQUIT\n"
 SECONDS = 60
 ALL_BEHIND = 1 << 30
@@ -160,21 +167,25 @@ class Session(reference_model.Session):
 
 
 def remembered(operator):
-    """The operator, which makes the same of the same once: sessions are gone through again for each allocation."""
+    """The operator, which makes the same of the same once: sessions are gone through again for each allocation. Numbers and bytes are
+    told apart by what they are, and all else by its place, which it keeps while it is held here."""
     made = {}
 
-    def applied(f, *rest):
-        key = repr((f, rest))
+    def applied(*given):
+        key = tuple(it if isinstance(it, (int, bytes)) else id(it) for it in given)
         if key not in made:
-            made[key] = operator(f, *rest)
-        return made[key]
+            made[key] = given, operator(*given)
+        return made[key][1]
     return applied
 
 
 def remember_all():
-    """Lets the reference model's machine remember what its operators made."""
+    """Lets the reference model's machine remember what it read, what its operators made and what was written of it."""
+    quick_model.install()
+    for name in ("image_in", "element_in", "image_text"):
+        setattr(reference_model, name, remembered(getattr(reference_model, name)))
     reference_model.OPERATIONS.update((word, (elements, numbers, remembered(operator)))
-                                  for word, (elements, numbers, operator) in list(reference_model.OPERATIONS.items()))
+                                      for word, (elements, numbers, operator) in list(reference_model.OPERATIONS.items()))
 
 
 def requests(data):
@@ -336,7 +347,7 @@ def refuse_starts(program, words, name, session, count):
     """Runs a session with each start of a thread refused, and says how many runs differ from the one without."""
     whole = run(program, words, session, count)
     bad = 0
-    if not whole.starts or mark_of(requests(session), whole) != "nothing":
+    if whole.starts < LEAST_STARTS or mark_of(requests(session), whole) != "nothing":
         bad += differs(name, "%d starts" % whole.starts, whole)
     for first in range(1, whole.starts + 1):
         for last in (first, ALL_BEHIND):

@@ -18,8 +18,7 @@ from refused_memory import built_refuser, counted, refusing
 MODULES = {
     "test_kernels_tests": ["files", "makers", "medians", "results", "sharing"],
     "test_core_tests": ["calls", "events", "owners", "results"],
-    "test_c_tests": ["direct_memory", "strips_memory"],
-    "test_geodesic_tests": ["memory"],
+    "test_c_tests": ["direct_memory", "geodesic_memory"],
     "test_pool_tests": ["refused"],
 }
 SECONDS = 60

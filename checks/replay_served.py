@@ -44,11 +44,14 @@ FAULTS = (Wrong, NoAnswer, Hangs, subprocess.TimeoutExpired)
 WITHOUT_PROGRAM = ("batch.worked_sessions_are_the_models",)
 # They compute much, or send many megabytes.
 LONG = {"batch": ("as_many_entries_as_there_may_be", "scripts_by_several_workers", "batch_has_its_workers_and_tiles",
-                  "worked_sessions_in_pieces"),
+                  "work_of_each_kind_is_shared", "worked_sessions_in_pieces"),
         "lines": ("as_many_workers_as_processors",),
         "serve": ("who_speaks_on_for_ever_is_left", "replies_are_sent_at_once", "serve_has_its_workers_and_tiles", "within_a_reply",
                   "nobody_is_cut_off_without_a_bound", "who_closes_one_way_hears_replies_that_wait", "who_listens_late_is_waited_for",
-                  "a_deaf_client_is_waited_for_two_seconds", "speaks_on"),
+                   "a_deaf_client_is_waited_for_two_seconds", "speaks_on", "stored_sessions_take_what_they_may",
+                   "who_comes_as_the_service_ends_is_closed", "who_has_gone_is_computed_for_no_more",
+                   "who_has_closed_one_way_is_computed_for", "who_computes_too_long_is_cut", "who_is_cut_with_more_to_say_is_reset",
+                   "who_computes_at_the_end_is_cut", "computing_is_told"),
         "listen": ("a_long_file_is_loaded", "workers_overlap", "cancel_fails_dependents", "what_is_released_serves_nothing_new",
                    "replies_are_sent_at_once", "listen_has_its_tiles", "within_a_reply")}
 
@@ -153,6 +156,9 @@ LEFT_OUT = (
     ("serve", "--queue", "serve.one_client_over_the_queue_is_turned_away"),
     ("serve", "--grace", "serve.sessions_are_ended_behind_the_grace"),
     ("serve", "--status", "serve.serve_tells_its_state"),
+    ("serve", "--time", "serve.who_computes_too_long_is_cut"),
+    ("serve", "--memory", "serve.a_session_takes_what_it_may"),
+    ("serve", "--memory", "serve.questions_take_what_they_may"),
     ("listen", "--workers", "listen.listen_has_its_port_workers_and_sessions"),
     ("listen", "--sessions", "listen.listen_has_its_port_workers_and_sessions"),
     ("listen", "--tile", "listen.listen_has_its_tiles"),
@@ -180,6 +186,8 @@ WRONG_CALLS = (
     ("gives_up", "batch.a_reader_that_is_interrupted"),
     ("gives_up", "serve.line_that_is_interrupted"),
     ("loses_rest", "batch.a_writer_that_takes_parts"),
+    ("no_errors", "serve.who_has_gone_is_computed_for_no_more"),
+    ("ends_as_errors", "serve.who_has_closed_one_way_is_computed_for"),
 )
 # A program in the place of the one that is tried, with the same number of its process.
 FRONT = """#!{python} -SE

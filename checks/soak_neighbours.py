@@ -21,6 +21,9 @@ FETCHED = b"IMAGE 0 %d\n" % len(PICTURE) + PICTURE
 HEAVY_SIDE, HEAVY = 512, 255
 # STATUS lines of one client, in so many pieces; a piece is answered before the next is sent.
 PIECES, LINES = 20, 10000
+# How many MiB a client may take, and more questions than a log of that size has places for.
+MEMORY, NO_MEMORY = 128, b"ERR 50 MEMORY\n"
+MOST_QUESTIONS = MEMORY << 14
 # So many come at once, which with all others are more than the service has sessions for.
 CROWD = 24
 # What a slow reader takes at a time, so often a second.
@@ -104,6 +107,24 @@ def asks_much(place):
         must_be(client.rest(), b"", "behind QUIT")
 
 
+def asks_on(place):
+    """asks for a STATUS until the log may take no more, and goes on"""
+    with place.come() as client:
+        known, told, found = b"ERR 41 UNKNOWN\n", 0, 0
+        while told < MOST_QUESTIONS and not found:
+            client.send(b"STATUS x\n" * LINES)
+            while client.held.count(b"\n") < LINES:
+                client.more("answers to many a STATUS")
+            said = client.taken(len(client.held))
+            told, found = told + LINES, said.count(NO_MEMORY)
+            wanted = known * (LINES - found) + NO_MEMORY * found
+            must_be(said == wanted, True, "each STATUS is answered, until one finds no memory")
+        must_be(found > 0, True, "a log that may take so much has no more places")
+        must_be(client.ask(b"STATUS x\n")[0], NO_MEMORY, "a STATUS behind a full log")
+        client.send(b"QUIT\n")
+        must_be(client.rest(), b"", "behind QUIT")
+
+
 def opens_large(place):
     """opens a picture of 2048 x 2048 eight times"""
     row = place.chance.choices(range(256), k=kept_memory.SIDE)
@@ -178,7 +199,7 @@ def only_comes(place):
         hang_up(client)
 
 
-KINDS = (keeps_silent, drips, is_deaf, reads_slowly, leaves_work, asks_much, opens_large, drips_behind_quit, stays_behind_quit, speaks_on,
+KINDS = (keeps_silent, drips, is_deaf, reads_slowly, leaves_work, asks_much, asks_on, opens_large, drips_behind_quit, stays_behind_quit, speaks_on,
          says_nothing_known, breaks_off, crowds, only_comes)
 
 

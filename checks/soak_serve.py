@@ -27,7 +27,7 @@ from kept_memory import SLACK, settings_of_unit
 from peers import hang_up
 from random_session import written
 from server import NoAnswer, Service
-from soak_neighbours import KINDS, Neighbours
+from soak_neighbours import KINDS, MEMORY, Neighbours
 
 HERE = os.path.dirname(os.path.realpath(__file__))
 CLIENTS = 64
@@ -193,7 +193,7 @@ class Soak:
     # ---- the whole
 
     def to_the_end(self):
-        with Service(self.program, SESSIONS, tile=64, idle=IDLE, settings=settings_of_unit(), more=self.words) as self.service:
+        with Service(self.program, SESSIONS, tile=64, idle=IDLE, settings=settings_of_unit(), more=("--memory", str(MEMORY), *self.words)) as self.service:
             self.runs()
 
     def work(self):

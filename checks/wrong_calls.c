@@ -5,6 +5,7 @@
 #include <errno.h>
 #include <netinet/in.h>
 #include <netinet/tcp.h>
+#include <pthread.h>
 #include <stdlib.h>
 #include <string.h>
 #include <sys/socket.h>
@@ -60,6 +61,19 @@ int setsockopt(int socket, int level, int name, const void *value, socklen_t siz
     return real(socket, level, name, value, size);
 }
 
+/* A socket tells no error; or an end of what comes as one. */
+int getsockopt(int socket, int level, int name, void *value, socklen_t *size) {
+    REAL(int, getsockopt, int, int, int, void *, socklen_t *);
+    int status = real(socket, level, name, value, size);
+    if (level == SOL_SOCKET && name == SO_ERROR && status == 0) {
+        char byte;
+        if (is_wrong("no_errors")) *(int *)value = 0;
+        if (is_wrong("ends_as_errors") && syscall(SYS_recvfrom, socket, &byte, 1, MSG_PEEK | MSG_DONTWAIT, NULL, NULL) == 0)
+            *(int *)value = ECONNRESET;
+    }
+    return status;
+}
+
 /* What comes behind the end of a session is read once, or for ever; an interrupted read or write has failed. */
 static int is_read_on(int socket) {
     if (socket < 0 || socket >= MOST || !is_closed[socket]) return 1;
@@ -86,6 +100,13 @@ ssize_t recv(int socket, void *buffer, size_t size, int flags) {
 ssize_t recvfrom(int socket, void *buffer, size_t size, int flags, struct sockaddr *from, socklen_t *length) {
     REAL(ssize_t, recvfrom, int, void *, size_t, int, struct sockaddr *, socklen_t *);
     return is_read_on(socket) ? got(socket, buffer, size, real(socket, buffer, size, flags, from, length)) : 0;
+}
+
+/* Threads begin two seconds late. */
+int pthread_create(pthread_t *thread, const pthread_attr_t *attributes, void *(*body)(void *), void *given) {
+    REAL(int, pthread_create, pthread_t *, const pthread_attr_t *, void *(*)(void *), void *);
+    if (is_wrong("late_threads")) sleep(2);
+    return real(thread, attributes, body, given);
 }
 
 /* Replies are sent one by one; the rest of a write that took a part is lost. */

@@ -6,6 +6,7 @@ where they have at most 65,536 values: an operator that only compares samples ma
 from __future__ import annotations
 
 import math
+import os
 from collections.abc import Callable
 from contextlib import suppress
 from dataclasses import dataclass
@@ -22,13 +23,28 @@ MOST_LEVELS = 65536
 _LEVELS = (np.dtype(np.uint8), np.dtype(np.uint16))
 
 
-def as_array(image: Any, axes: tuple[int, int] | None) -> NDArray[Any]:
-    """The array of an image, with two axes unless `axes` says which ones are its rows and columns."""
+def any_array(image: Any) -> NDArray[Any]:
+    """The array of an image, with any axes."""
     if isinstance(image, np.ma.MaskedArray):
         raise TypeError("masked arrays are not taken: fill them, and choose by np.where behind the call")
-    array = np.asarray(image)
+    if isinstance(image, (str, os.PathLike)):
+        raise TypeError(f"an image is an array, and this is a path: morphd.read({str(image)!r}) makes one of a picture")
+    return np.asarray(image)
+
+
+def as_array(image: Any, axes: tuple[int, int] | None) -> NDArray[Any]:
+    """The array of an image, with two axes unless `axes` says which ones are its rows and columns."""
+    array = any_array(image)
     if array.ndim != 2 and axes is None:
         raise ValueError(f"an image has two axes, and this array has {array.ndim}: axes=(ROWS, COLUMNS) says which are a plane's")
+    return array
+
+
+def as_plane(image: Any) -> NDArray[Any]:
+    """The array of an image, for functions that take two axes alone."""
+    array = any_array(image)
+    if array.ndim != 2:
+        raise ValueError(f"an image has two axes, and this array has {array.ndim}: take plane after plane")
     return array
 
 
@@ -193,8 +209,8 @@ def check_kind(array: NDArray[Any], what: str, only_compares: bool) -> None:
     if dtype.kind not in "iuf":
         raise TypeError(f"{what} takes arrays of bool, integers and floats, and this is one of {dtype}")
     if not only_compares:
-        raise TypeError(f"{what} takes arrays of bool, uint8 and uint16, and this is one of {dtype}: it computes with samples, "
-                        "so their order alone does not tell its result")
+        raise TypeError(f"{what} takes arrays of bool, uint8 and uint16, and this is one of {dtype}: the order of samples alone does "
+                        "not tell its result")
 
 
 def read(array: NDArray[Any], what: str, maxval: Any, cval: Any = None) -> Reading:
@@ -216,8 +232,8 @@ def checked_out(out: Any, array: NDArray[Any], dtype: Any) -> NDArray[Any] | Non
     """The caller's array for the result, if he gave one that it fits."""
     if out is None:
         return None
-    if not isinstance(out, np.ndarray):
-        raise TypeError("out is a NumPy array")
+    if not isinstance(out, np.ndarray) or isinstance(out, np.ma.MaskedArray):
+        raise TypeError("out is a NumPy array, and no masked one")
     if out.shape != array.shape or out.dtype != dtype:
         raise ValueError(f"out is an array of {dtype} and {array.shape}, and this is one of {out.dtype} and {out.shape}")
     if not out.flags.writeable:

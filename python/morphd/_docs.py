@@ -7,7 +7,11 @@ from typing import Any, TypeVar
 
 Function = TypeVar("Function", bound=Callable[..., Any])
 
+_AXES = """\
+axes : (int, int), optional
+    Which axes are the rows and the columns of a plane, for arrays with more than two. Planes are treated by themselves."""
 _PARTS = {
+    "axes": _AXES,
     "image": """\
 image : array_like
     Two axes, unless `axes` is given. An array of bool is a set; uint8 and uint16 are taken as they are. {types}
@@ -24,12 +28,11 @@ mode : {{'ignore', 'reflect', 'mirror', 'nearest', 'wrap', 'constant'}}, optiona
 cval : scalar
     The sample outside with ``mode='constant'``; among floats the nearest one of the image's type. What that type does not
     hold is refused: NaN, a fraction among integers, a number outside the limits.""",
-    "options": """\
+    "options": f"""\
 maxval : int, optional
     The greatest sample that an array of uint8 or uint16 can have, 4095 for a camera of 12 bits; the type's if left out.
     It is what an erosion gives where its footprint sees nothing; a dilation gives 0. A sample over it is refused.
-axes : (int, int), optional
-    Which axes are the rows and the columns of a plane, for arrays with more than two. Planes are treated by themselves.""",
+{_AXES}""",
     "compat": """\
 compat : {{'scipy', 'skimage', 'opencv'}}, optional
     Whose rules are taken for reflected footprints, the origin of even sides and edges: those of SciPy 1.10,
@@ -46,16 +49,14 @@ workers : int, optional
 footprint : Footprint or array_like, optional
     Which pixels hang together: p with those at p + b, b in the footprint. The square of 3 x 3 if left out, as scikit-image has
     it: pixels that share a side or a corner.""",
-    "whole": """\
+    "whole": f"""\
 maxval : int, optional
     The greatest sample that an array of uint8 or uint16 can have; the type's if left out. A sample over it is refused.
-axes : (int, int), optional
-    Which axes are the rows and the columns of a plane, for arrays with more than two. Planes are treated by themselves.
+{_AXES}
 out : ndarray, optional
     Where the result is written: an array of the image's shape and of the result's type. It may be `image`.""",
-    "planes": """\
-axes : (int, int), optional
-    Which axes are the rows and the columns of a plane, for arrays with more than two. Planes are treated by themselves.
+    "planes": f"""\
+{_AXES}
 out : ndarray of bool, optional
     Where the result is written: an array of the shape of `mask`, which it may be.""",
     "mask": """\

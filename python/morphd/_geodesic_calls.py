@@ -42,6 +42,17 @@ def _arguments(field: Field, footprint: Footprint, out: Samples) -> tuple[Any, .
     return (*frame_of(field), *field.top, *array_at(field.samples), *element_of(footprint), *array_at(out))
 
 
+class Around(Whole):
+    """Such calls in which a footprint tells what hangs together."""
+
+    footprint: Footprint
+
+    def call(self, name: str, field: Field, out: Samples, *numbers: int) -> Callable[[], None]:
+        """The call of a family for this kind of samples, with these numbers before the image."""
+        arguments = (*numbers, *_arguments(field, self.footprint, out))
+        return ready_with(f"morphd_{name}_{field.kind}", lambda: f"{self} of {field}", arguments, field.samples, out)
+
+
 def reconstruction(method: int, marker: Field, mask: Field, footprint: Footprint, out: Samples) -> Callable[[], None]:
     """The reconstruction of a mask from a marker of its kind."""
     arguments = (method, *frame_of(marker), *marker.top, *array_at(marker.samples), *_arguments(mask, footprint, out))
@@ -54,28 +65,26 @@ def reconstruction(method: int, marker: Field, mask: Field, footprint: Footprint
 
 
 @dataclass(frozen=True)
-class Filled(Whole):
+class Filled(Around):
     """The image with its holes filled."""
 
     footprint: Footprint
 
     def ready(self, field: Field, out: Samples) -> Callable[[], None]:
-        arguments = _arguments(field, self.footprint, out)
-        return ready_with(f"morphd_fill_{field.kind}", lambda: f"{self} of {field}", arguments, field.samples, out)
+        return self.call("fill", field, out)
 
     def __str__(self) -> str:
         return f"filled holes by {self.footprint!r}"
 
 
 @dataclass(frozen=True)
-class Cleared(Whole):
+class Cleared(Around):
     """The image less what is reconstructed from its border."""
 
     footprint: Footprint
 
     def ready(self, field: Field, out: Samples) -> Callable[[], None]:
-        arguments = _arguments(field, self.footprint, out)
-        return ready_with(f"morphd_clear_border_{field.kind}", lambda: f"{self} of {field}", arguments, field.samples, out)
+        return self.call("clear_border", field, out)
 
     def __str__(self) -> str:
         return f"cleared border by {self.footprint!r}"
@@ -101,7 +110,7 @@ class ClearedBand(Whole):
 
 
 @dataclass(frozen=True)
-class Cut(Whole):
+class Cut(Around):
     """The image with h cut off its domes, or filled into its basins."""
 
     kind: int
@@ -109,16 +118,14 @@ class Cut(Whole):
     footprint: Footprint
 
     def ready(self, field: Field, out: Samples) -> Callable[[], None]:
-        levels = field.levels
-        arguments = (self.kind, self.h, *_arguments(levels, self.footprint, out))
-        return ready_with(f"morphd_extrema_h_{levels.kind}", lambda: f"{self} of {field}", arguments, field.samples, out)
+        return self.call("extrema_h", field.levels, out, self.kind, self.h)
 
     def __str__(self) -> str:
         return f"h-{_EXTREMA[self.kind]} of {self.h} by {self.footprint!r}"
 
 
 @dataclass(frozen=True)
-class Regional(Whole):
+class Regional(Around):
     """The set of the regional maxima or minima."""
 
     kind: int
@@ -128,31 +135,28 @@ class Regional(Whole):
         return np.uint8
 
     def ready(self, field: Field, out: Samples) -> Callable[[], None]:
-        levels = field.levels
-        arguments = (self.kind, *_arguments(levels, self.footprint, out))
-        return ready_with(f"morphd_extrema_regional_{levels.kind}", lambda: f"{self} of {field}", arguments, field.samples, out)
+        return self.call("extrema_regional", field.levels, out, self.kind)
 
     def __str__(self) -> str:
         return f"regional {_EXTREMA[self.kind]} by {self.footprint!r}"
 
 
 @dataclass(frozen=True)
-class Large(Whole):
+class Large(Around):
     """The components of a set that have so many pixels or more."""
 
     least: int
     footprint: Footprint
 
     def ready(self, field: Field, out: Samples) -> Callable[[], None]:
-        arguments = (self.least, *_arguments(field, self.footprint, out))
-        return ready_with("morphd_area_set", lambda: f"{self} of {field}", arguments, field.samples, out)
+        return self.call("area", field, out, self.least)
 
     def __str__(self) -> str:
         return f"components of {self.least} pixels and more by {self.footprint!r}"
 
 
 @dataclass(frozen=True)
-class AreaFiltered(Whole):
+class AreaFiltered(Around):
     """The area opening or the area closing."""
 
     kind: int
@@ -160,9 +164,7 @@ class AreaFiltered(Whole):
     footprint: Footprint
 
     def ready(self, field: Field, out: Samples) -> Callable[[], None]:
-        levels = field.levels
-        arguments = (self.kind, self.least, *_arguments(levels, self.footprint, out))
-        return ready_with(f"morphd_area_{levels.kind}", lambda: f"{self} of {field}", arguments, field.samples, out)
+        return self.call("area", field.levels, out, self.kind, self.least)
 
     def __str__(self) -> str:
         return f"area {_AREA[self.kind]} of {self.least} pixels by {self.footprint!r}"

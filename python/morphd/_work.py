@@ -4,6 +4,7 @@ Levels, rims and pieces are the work of `_arrays`, `_edges` and `_pieces`; which
 """
 from __future__ import annotations
 
+import operator
 from collections.abc import Callable, Iterator
 from dataclasses import dataclass, replace
 from typing import Any
@@ -18,8 +19,8 @@ from ._plans import Compat
 
 Array = NDArray[Any]
 _COMPUTING = (
-    "gradient", "white_tophat", "black_tophat", "hit_or_miss", "skeleton", "restored", "clear_border", "hmax", "hmin", "local_maxima",
-    "local_minima", "area_opening", "area_closing",
+    "gradient", "white_tophat", "black_tophat", "hit_or_miss", "skeleton", "restored", "clear_border", "hmax", "hmin", "h_maxima",
+    "h_minima", "local_maxima", "local_minima", "area_opening", "area_closing",
 )
 
 
@@ -61,12 +62,22 @@ def _checked(options: Options) -> Options:
     return replace(options, workers=_threads.worker_count(options.workers))
 
 
+def plane_axes(array: Array, axes: tuple[int, int]) -> tuple[int, int]:
+    """The axes of the rows and of the columns of a plane, counted from 0."""
+    count = array.ndim
+    try:
+        rows, columns = (operator.index(axis) for axis in axes)
+    except (TypeError, ValueError):
+        raise TypeError(f"axes are two whole numbers, those of the rows and of the columns: {axes!r}") from None
+    if not all(-count <= axis < count for axis in (rows, columns)) or rows % count == columns % count:
+        raise ValueError(f"axes are two of the {count} axes of the array: {axes}")
+    return rows % count, columns % count
+
+
 def planes(array: Array, out: Array, axes: tuple[int, int]) -> Iterator[tuple[Array, Array]]:
     """Each plane of an array with the plane of the result."""
-    rows, columns = (axis % array.ndim if -array.ndim <= axis < array.ndim else None for axis in axes)
-    if rows is None or columns is None or rows == columns:
-        raise ValueError(f"axes are two of the {array.ndim} axes of the array: {axes}")
-    moved, target = (np.moveaxis(held, (rows, columns), (-2, -1)) for held in (array, out))
+    places = plane_axes(array, axes)
+    moved, target = (np.moveaxis(held, places, (-2, -1)) for held in (array, out))
     for at in np.ndindex(*moved.shape[:-2]):
         yield moved[at], target[at]
 

@@ -249,7 +249,7 @@ def measured(
     pixel: float | str | tuple[float, str] = 1.0, *, maxval: int | None = None, workers: int | None = None,
 ) -> Spectrum:
     """What `spectrum` gives, without its warnings: whoever calls it tells the `doubts`."""
-    array, family = _arrays.as_array(image, None), _families.family(footprint)
+    array, family = _arrays.as_plane(image), _families.family(footprint)
     size, unit = pixel_size(pixel)
     _arrays.check_kind(array, "spectrum", False)
     field = _arrays.read(array, "spectrum", maxval).field

@@ -87,6 +87,8 @@ def _bitmap_bytes(bitmap: Any) -> tuple[bytes, int, int]:
         if array.dtype.kind not in "biuf":
             raise TypeError(f"a footprint is made of numbers, and this is an array of {array.dtype}")
         return (array != 0).tobytes(), array.shape[0], array.shape[1]
+    if not hasattr(bitmap, "__iter__"):
+        raise TypeError(f"a footprint is a bitmap, as square(3) or [[1, 1, 1]]: {bitmap!r}")
     rows = [_row(pixels) for pixels in (bitmap.split() if isinstance(bitmap, str) else bitmap)]
     columns = len(rows[0]) if rows else 0
     if any(len(row) != columns for row in rows):

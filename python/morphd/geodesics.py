@@ -25,7 +25,7 @@ from ._calls import Field, Samples
 from ._docs import COMPUTES, FILLS, documented
 from ._geodesic_calls import Cleared, ClearedBand, Cut, Distances, Filled, Regional, Whole
 from ._numbers import whole, word
-from ._work import Array, Options, Work, made_of, planes
+from ._work import Array, Options, Work, made_of, plane_axes, planes
 from .errors import Refused
 from .footprints import Footprint, diamond, square
 
@@ -62,7 +62,7 @@ def neighbours(connectivity: int | None) -> Footprint:
 
 def as_set(mask: Any, what: str) -> Field:
     """A set for the library: of bool, or of bytes of which those that are not 0 are alike."""
-    array = _arrays.as_array(mask, None)
+    array = _arrays.as_plane(mask)
     if array.dtype == np.bool_:
         return _arrays.read(array, what, None).field
     if array.dtype == np.uint8:
@@ -301,7 +301,7 @@ def clear_border(
     if width == 0:
         return made_whole("clear_border", Cleared(b), image, options)
     array = _arrays.as_array(image, axes)
-    sides = array.shape if axes is None else [array.shape[axis] for axis in axes if -array.ndim <= axis < array.ndim]
+    sides = array.shape if axes is None else [array.shape[axis] for axis in plane_axes(array, axes)]
     if any(width >= side for side in sides):
         raise ValueError(f"buffer is less than the sides of the image: {width} of {array.shape}")
     return made_whole("clear_border", ClearedBand(b, width + 1), array, options)
@@ -321,7 +321,7 @@ def hmax(
     ----------
     %(image)s
     h : int
-        From 1 to 65535.
+        In levels of the image, from 1 to 65535.
     %(around)s
     %(whole)s
 
@@ -354,8 +354,7 @@ def hmax(
     >>> image - morphd.hmax(image, 2) >= 2
     array([[False,  True, False,  True, False]])
     """
-    plan = Cut(_library.MAXIMA, word(whole(h, "h"), "hmax"), _around(footprint))
-    return made_whole("hmax", plan, image, Options(maxval=maxval, axes=axes, out=out))
+    return _cut("hmax", _library.MAXIMA, image, h, footprint, Options(maxval=maxval, axes=axes, out=out))
 
 
 @documented(COMPUTES)
@@ -372,7 +371,7 @@ def hmin(
     ----------
     %(image)s
     h : int
-        From 1 to 65535.
+        In levels of the image, from 1 to 65535.
     %(around)s
     %(whole)s
 
@@ -402,11 +401,15 @@ def hmin(
     >>> morphd.hmin(np.array([[9, 7, 9, 4, 8]], np.uint8), 2)
     array([[9, 9, 9, 6, 8]], dtype=uint8)
     """
-    plan = Cut(_library.MINIMA, word(whole(h, "h"), "hmin"), _around(footprint))
-    return made_whole("hmin", plan, image, Options(maxval=maxval, axes=axes, out=out))
+    return _cut("hmin", _library.MINIMA, image, h, footprint, Options(maxval=maxval, axes=axes, out=out))
 
 
-@documented()
+def _cut(name: str, kind: int, image: Any, h: Any, footprint: FootprintLike | None, options: Options) -> Array:
+    """The image with h cut off its domes, or filled into its basins."""
+    return made_whole(name, Cut(kind, word(whole(h, "h"), name), _around(footprint)), image, options)
+
+
+@documented(COMPUTES)
 def h_maxima(image: ArrayLike, h: int, footprint: FootprintLike | None = None) -> NDArray[np.bool_]:
     """The set of the tops of the domes of a height of `h` or more, as scikit-image has it.
 
@@ -414,7 +417,7 @@ def h_maxima(image: ArrayLike, h: int, footprint: FootprintLike | None = None) -
     ----------
     %(image)s
     h : int
-        From 1 to 65535.
+        In levels of the image, from 1 to 65535.
     %(around)s
 
     Returns
@@ -438,11 +441,10 @@ def h_maxima(image: ArrayLike, h: int, footprint: FootprintLike | None = None) -
     >>> morphd.h_maxima(np.array([[0, 2, 0, 5, 1]], np.uint8), 2)
     array([[False,  True, False,  True, False]])
     """
-    array = _arrays.as_array(image, None)
-    return _has_height(array, array - hmax(array, h, footprint), h)
+    return _are_as_high("h_maxima", _library.MAXIMA, image, h, footprint)
 
 
-@documented()
+@documented(COMPUTES)
 def h_minima(image: ArrayLike, h: int, footprint: FootprintLike | None = None) -> NDArray[np.bool_]:
     """The set of the floors of the basins of a depth of `h` or more, as scikit-image has it.
 
@@ -450,7 +452,7 @@ def h_minima(image: ArrayLike, h: int, footprint: FootprintLike | None = None) -
     ----------
     %(image)s
     h : int
-        From 1 to 65535.
+        In levels of the image, from 1 to 65535.
     %(around)s
 
     Returns
@@ -473,14 +475,18 @@ def h_minima(image: ArrayLike, h: int, footprint: FootprintLike | None = None) -
     >>> morphd.h_minima(np.array([[9, 7, 9, 4, 8]], np.uint8), 3)
     array([[False, False, False,  True, False]])
     """
-    array = _arrays.as_array(image, None)
-    return _has_height(array, hmin(array, h, footprint) - array, h)
+    return _are_as_high("h_minima", _library.MINIMA, image, h, footprint)
 
 
-def _has_height(image: Array, heights: Array, h: int) -> NDArray[np.bool_]:
-    """Where heights are h or more, if samples lie that far apart."""
-    is_there = image.size and int(image.max()) - int(image.min()) >= h
-    made: NDArray[np.bool_] = heights >= h if is_there else np.zeros(image.shape, np.bool_)
+def _are_as_high(name: str, kind: int, image: Any, h: Any, footprint: FootprintLike | None) -> NDArray[np.bool_]:
+    """The tops of the domes that are h high or more, or the floors of the basins that are so deep, if samples lie that far apart."""
+    array = _arrays.as_plane(image)
+    cut = _cut(name, kind, array, h, footprint, Options())
+    # as levels, since sets are not subtracted
+    before, behind = (_arrays.read(each, name, None).field.samples for each in (array, cut))
+    if not before.size or int(before.max()) - int(before.min()) < h:
+        return np.zeros(array.shape, np.bool_)
+    made: NDArray[np.bool_] = (before - behind if kind == _library.MAXIMA else behind - before) >= h
     return made
 
 
@@ -651,7 +657,7 @@ def regioned(field: Field, footprint: Footprint) -> tuple[NDArray[np.int32], NDA
 
 @documented()
 def distance(mask: ArrayLike, metric: Metric = "euclidean") -> NDArray[Any]:
-    """How far each pixel of a set is from the nearest pixel that is not in it.
+    """How far each pixel of a set is from the nearest pixel that is not in it, in pixels.
 
     Parameters
     ----------

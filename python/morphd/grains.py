@@ -112,7 +112,8 @@ class Summary:
         grains = "1 grain" if self.count == 1 else f"{self.count} grains"
         cut = "cut by the frame" if self.count == 1 else f"{self.touching} of them cut by the frame"
         touching = f", {cut}" if self.touching else ""
-        lines = [f"{grains}{touching}, {self.area:.6g} {self.area_unit} in all, {self.part:.1%} of the frame"]
+        part = "" if math.isnan(self.part) else f", {self.part:.1%} of the frame"
+        lines = [f"{grains}{touching}, {self.area:.6g} {self.area_unit} in all{part}"]
         if self.count:
             unit = f" {self.unit}" if self.unit else ""
             lines += [
@@ -128,8 +129,11 @@ def _mean_and_spread(values: Column, weights: Column) -> tuple[float, float]:
     total = float(weights.sum())
     if not total:
         return math.nan, math.nan
-    mean = float((values * weights).sum() / total)
-    return mean, math.sqrt(float(((values - mean) ** 2 * weights).sum() / total))
+    # from the first value on, so that equal values have no spread
+    first = float(values[0])
+    apart = values - first
+    mean = float((apart * weights).sum() / total)
+    return first + mean, math.sqrt(float(((apart - mean) ** 2 * weights).sum() / total))
 
 
 @dataclass(frozen=True, eq=False)
@@ -377,7 +381,7 @@ def _words(column: Column, digits: int = 9) -> list[str]:
 
 def _checked_image(intensity: Any, shape: tuple[int, ...]) -> Column:
     """The image whose samples are measured."""
-    image = _arrays.as_array(intensity, None)
+    image = _arrays.as_plane(intensity)
     if image.dtype.kind not in "biuf":
         raise TypeError(f"intensity is an array of bool, integers or floats, and this is one of {image.dtype}")
     if image.shape != shape:
@@ -462,7 +466,7 @@ def regions(
 
 
 def _checked_labels(labels: Any) -> NDArray[np.int32]:
-    array = _arrays.as_array(labels, None)
+    array = _arrays.as_plane(labels)
     if array.dtype.kind not in "iu":
         raise TypeError(f"labels are whole numbers, and these are of {array.dtype}: a set is a mask")
     least, most = int(array.min(initial=0)), int(array.max(initial=0))

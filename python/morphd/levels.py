@@ -83,7 +83,9 @@ def otsu(image: ArrayLike) -> int:
     """
     import numpy as np
 
-    array = np.asarray(image)
+    from . import _arrays
+
+    array = _arrays.any_array(image)
     if array.dtype.newbyteorder("=") not in (np.uint8, np.uint16):
         raise TypeError(f"otsu takes arrays of uint8 and uint16, and this is one of {array.dtype}")
     counts = np.bincount(array.ravel())

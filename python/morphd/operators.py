@@ -128,6 +128,12 @@ def dilation(
     ----------
     .. [1] %(serra)s
     .. [2] %(herk)s
+    
+    Examples
+    --------
+    >>> import numpy as np, morphd
+    >>> morphd.dilation(np.array([[3, 1, 4, 1, 5]], np.uint8), [[1, 1, 1]])
+    array([[3, 4, 4, 5, 5]], dtype=uint8)
     """
     return _flat("dilation", image, footprint, Options(mode, cval, maxval, axes, compat, out, workers))
 
@@ -177,6 +183,12 @@ def opening(
     ----------
     .. [1] %(serra)s
     .. [2] %(heijmans)s
+    
+    Examples
+    --------
+    >>> import numpy as np, morphd
+    >>> morphd.opening(np.array([[0, 7, 7, 7, 0, 9, 0]], np.uint8), [[1, 1, 1]])
+    array([[0, 7, 7, 7, 0, 0, 0]], dtype=uint8)
     """
     return _flat("opening", image, footprint, Options(mode, cval, maxval, axes, compat, out, workers))
 
@@ -225,6 +237,12 @@ def closing(
     ----------
     .. [1] %(serra)s
     .. [2] %(heijmans)s
+    
+    Examples
+    --------
+    >>> import numpy as np, morphd
+    >>> morphd.closing(np.array([[9, 2, 9, 9, 1, 1, 1, 9]], np.uint8), [[1, 1, 1]])
+    array([[9, 9, 9, 9, 1, 1, 1, 9]], dtype=uint8)
     """
     return _flat("closing", image, footprint, Options(mode, cval, maxval, axes, compat, out, workers))
 
@@ -263,6 +281,12 @@ def gradient(
     References
     ----------
     .. [1] %(rivest)s
+    
+    Examples
+    --------
+    >>> import numpy as np, morphd
+    >>> morphd.gradient(np.array([[0, 0, 9, 9]], np.uint8), [[1, 1, 1]])
+    array([[0, 9, 9, 0]], dtype=uint8)
     """
     return _flat("gradient", image, footprint, Options(mode, cval, maxval, axes, compat, out, workers))
 
@@ -303,6 +327,12 @@ def white_tophat(
     ----------
     .. [1] %(meyer)s
     .. [2] %(soille)s
+    
+    Examples
+    --------
+    >>> import numpy as np, morphd
+    >>> morphd.white_tophat(np.array([[1, 1, 8, 1, 1]], np.uint8), [[1, 1, 1]])
+    array([[0, 0, 7, 0, 0]], dtype=uint8)
     """
     return _flat("white_tophat", image, footprint, Options(mode, cval, maxval, axes, compat, out, workers))
 
@@ -343,6 +373,12 @@ def black_tophat(
     ----------
     .. [1] %(meyer)s
     .. [2] %(soille)s
+    
+    Examples
+    --------
+    >>> import numpy as np, morphd
+    >>> morphd.black_tophat(np.array([[8, 8, 1, 8, 8]], np.uint8), [[1, 1, 1]])
+    array([[0, 0, 7, 0, 0]], dtype=uint8)
     """
     return _flat("black_tophat", image, footprint, Options(mode, cval, maxval, axes, compat, out, workers))
 
@@ -395,6 +431,12 @@ def rank(
     ----------
     .. [1] %(soille)s
     .. [2] %(huang)s
+    
+    Examples
+    --------
+    >>> import numpy as np, morphd
+    >>> morphd.rank(np.array([[3, 1, 4, 1, 5]], np.uint8), 3, [[1, 1, 1]])
+    array([[3, 4, 4, 5, 5]], dtype=uint8)
     """
     options = Options(mode, cval, maxval, axes, compat, out, workers, "reflect")
     number = whole(k, "k")
@@ -436,6 +478,12 @@ def median(
     References
     ----------
     .. [1] %(huang)s
+    
+    Examples
+    --------
+    >>> import numpy as np, morphd
+    >>> morphd.median(np.array([[3, 3, 200, 4, 4]], np.uint8), [[1, 1, 1]])
+    array([[3, 3, 4, 4, 4]], dtype=uint8)
     """
     options = Options(mode, cval, maxval, axes, compat, out, workers, "reflect")
     return _ranked("median", image, footprint, lambda count: count // 2 + 1, options)
@@ -478,6 +526,12 @@ def percentile(
     ----------
     .. [1] %(soille)s
     .. [2] %(huang)s
+    
+    Examples
+    --------
+    >>> import numpy as np, morphd
+    >>> morphd.percentile(np.array([[3, 1, 4, 1, 5]], np.uint8), 50, [[1, 1, 1]])
+    array([[3, 3, 1, 4, 5]], dtype=uint8)
     """
     if not 0 <= q <= 100:
         raise ValueError(f"q is a percentage from 0 to 100: {q}")
@@ -517,6 +571,12 @@ def threshold(
     References
     ----------
     .. [1] %(serra)s
+    
+    Examples
+    --------
+    >>> import numpy as np, morphd
+    >>> morphd.threshold(np.array([[3, 1, 4, 1, 5]], np.uint8), 3)
+    array([[ True, False,  True, False,  True]])
     """
     if (number := real(k, "k")) != number:
         raise ValueError("threshold at NaN")
@@ -569,6 +629,12 @@ def hit_or_miss(
     ----------
     .. [1] %(serra)s
     .. [2] %(soille)s
+    
+    Examples
+    --------
+    >>> import numpy as np, morphd
+    >>> morphd.hit_or_miss(np.array([[0, 1, 0, 1, 1]], bool), [[0, 1, 0]])
+    array([[False,  True, False, False, False]])
     """
     if compat == "skimage":
         raise ValueError("skimage has no hit_or_miss")
@@ -601,8 +667,7 @@ def skeleton(
         By which the set is eroded again and again. Its origin has to be one of its pixels.
     levels : int
         How many times, 1 to 254.
-    axes : (int, int), optional
-        Which axes are the rows and the columns of a plane, for arrays with more than two.
+    %(axes)s
     %(out)s
 
     Returns
@@ -624,6 +689,12 @@ def skeleton(
     ----------
     .. [1] %(lantuejoul)s
     .. [2] %(serra)s
+    
+    Examples
+    --------
+    >>> import numpy as np, morphd
+    >>> morphd.skeleton(np.array([[0, 1, 1, 1, 1, 1, 0]], bool), [[1, 1, 1]], 3)
+    array([[0, 0, 0, 3, 0, 0, 0]], dtype=uint8)
     """
     array = _arrays.as_array(image, axes)
     if array.dtype != np.bool_:
@@ -647,8 +718,7 @@ def restored(
         The footprint that it was made with.
     levels : int
         The levels that it was made with; with fewer of them, details that are smaller stay away.
-    axes : (int, int), optional
-        Which axes are the rows and the columns of a plane, for arrays with more than two.
+    %(axes)s
     %(out)s
 
     Returns
@@ -667,6 +737,12 @@ def restored(
     ----------
     .. [1] %(lantuejoul)s
     .. [2] %(serra)s
+    
+    Examples
+    --------
+    >>> import numpy as np, morphd
+    >>> morphd.restored(np.array([[0, 0, 0, 3, 0, 0, 0]], np.uint8), [[1, 1, 1]], 3)
+    array([[False,  True,  True,  True,  True,  True, False]])
     """
     b, count = Footprint(footprint), word(whole(levels, "levels"), "restoration")
     return made_of(Work("restored", lambda _: Restoration(b, count), np.bool_), marks, Options(axes=axes, out=out, workers=workers))

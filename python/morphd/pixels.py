@@ -8,7 +8,7 @@ This module needs nothing but Python.
 from __future__ import annotations
 
 import re
-from typing import NamedTuple
+from typing import Any, NamedTuple, SupportsFloat
 
 __all__ = ["Pixel", "pixel_size"]
 
@@ -53,18 +53,29 @@ def pixel_size(pixel: float | str | tuple[float, str]) -> Pixel:
 
     Raises
     ------
+    TypeError
+        Where it is nothing of that kind.
     ValueError
         Where it is no number and a unit, or not longer than 0.
     """
+    size, unit = _apart(pixel)
+    if not 0 < size < float("inf"):
+        raise ValueError(f"a pixel is longer than 0: {pixel!r}")
+    return Pixel(size, _SAME.get(unit, unit))
+
+
+def _apart(pixel: Any) -> tuple[float, str]:
+    """The number and the unit, as they are told."""
     if isinstance(pixel, str):
         found = _TEXT.fullmatch(pixel)
         if found is None:
             raise ValueError(f"a pixel is a number with a unit, as 0.32um: {pixel!r}")
-        size, unit = float(found[1]), found[2]
-    elif isinstance(pixel, tuple):
-        size, unit = float(pixel[0]), pixel[1]
-    else:
-        size, unit = float(pixel), "pixels" if pixel == 1 else "units"
-    if not 0 < size < float("inf"):
-        raise ValueError(f"a pixel is longer than 0: {pixel!r}")
-    return Pixel(size, _SAME.get(unit, unit))
+        return float(found[1]), found[2]
+    if isinstance(pixel, SupportsFloat):
+        size = float(pixel)
+        return size, "pixels" if size == 1 else "units"
+    if isinstance(pixel, (tuple, list)) and len(pixel) == 2:
+        number, unit = pixel
+        if isinstance(number, SupportsFloat) and isinstance(unit, str):
+            return float(number), unit
+    raise TypeError(f"a pixel is a number, a text as '0.32um', or both apart, as (0.32, 'um'): {pixel!r}")

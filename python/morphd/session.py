@@ -270,7 +270,7 @@ class Session:
     workers : int, optional
         How many threads compute, 1 to 64; as many as there are processors, at most 16, if left out.
     tile : int, optional
-        The side of the tiles, a multiple of 64 up to 1024; 128 if left out.
+        The side of the tiles, a multiple of 64 up to 1024. If left out, one that suits each element: 256 up to 1024.
     program : str or path, optional
         The program `morphd`; found by MORPHD, on PATH or in a checkout if left out.
 

@@ -47,8 +47,9 @@ def watershed(
     """The basin that each pixel belongs to, when the image is flooded from markers.
 
     For each level h of the image, from the least on, go rounds. In a round each pixel of a level up to h, in the mask and without a label,
-    that has a neighbour with one when the round begins takes the label of the first such neighbour, counted by rows from the top and
-    in a row from the left. When a round changes nothing comes the next level.
+    that has a neighbour with one when the round begins takes that label. Where its neighbours have several labels, the tie goes to the
+    first such neighbour, counted by rows from the top and in a row from the left. When a round changes nothing comes the next level.
+    Flooding by this rule is tested, and not proved.
 
     Parameters
     ----------
@@ -89,8 +90,9 @@ def watershed(
     machine or on how they are found. Minima and labels at the start are calls of the library, which are proved. Flooding is not: it is
     tested beside a program that goes by the rule, pixel by pixel.
 
-    Where a pixel has neighbours of a single label when its turn comes, scikit-image gives it the same one. Else it gives that of the
-    neighbour which got its own first; here it is the first by rows.
+    scikit-image makes the same labels where the markers are the minima, each with one, and no pixel has neighbours of several labels
+    when its turn comes. At such a tie it takes the label of the neighbour which got its own first; here it is the first by rows. A
+    marker over its neighbours spreads there when its own level comes, and a basin without a marker is filled at once by who comes first.
 
     Its time grows with the pixels and with the rounds of all levels. With markers an array may have any sides; the minima of one are
     found within the library's limits.
@@ -112,7 +114,7 @@ def watershed(
     >>> morphd.watershed(image, watershed_line=True)
     array([[1, 1, 1, 0, 2, 2]], dtype=int32)
     """
-    b, array = neighbours(whole(connectivity, "connectivity")), _arrays.as_array(image, None)
+    b, array = neighbours(whole(connectivity, "connectivity")), _arrays.as_plane(image)
     _arrays.check_kind(array, "watershed", True)
     is_in = _mask_of(mask, array.shape)
     if not array.size:
@@ -143,7 +145,7 @@ def _markers_of(markers: Any, field: Field, is_in: Set, footprint: Footprint) ->
             raise Refused(47, f"watershed from {count} markers")
         part = np.count_nonzero(is_in) / is_in.size
         return _grid(is_in.shape, int(count / part)) if part else np.zeros(is_in.shape, np.int32)
-    array = _arrays.as_array(markers, None)
+    array = _arrays.as_plane(markers)
     if array.dtype.kind not in "iu":
         raise TypeError(f"markers are whole numbers, and these are of {array.dtype}: label(markers) numbers the components of a set")
     if array.shape != is_in.shape:

@@ -234,7 +234,7 @@ def test_an_even_number_of_sizes_is_refused_by_its_number():
             morphd.spectrum(GRAINS, BAR, sizes)
     with pytest.raises(Refused, match="22 SIZE"):
         morphd.spectrum(GRAINS[:0], BAR, 2)
-    with pytest.raises(TypeError, match="computes with samples"):
+    with pytest.raises(TypeError, match="order of samples alone"):
         morphd.spectrum(GRAINS.astype(float), BAR, 2)
     assert morphd.spectrum(GRAINS.astype(np.uint16), BAR, 2, maxval=9).volumes.tolist() == [5, 3, 0]
 

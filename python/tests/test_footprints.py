@@ -133,7 +133,8 @@ def test_a_drawing_is_read_as_it_is_printed(b):
 
 
 @pytest.mark.parametrize("bitmap", [
-    "", "012", "a", ["01", "0b"], [["a"]], [["0", "1"]], [["x", 1]], [[None, 1]], [1, 0], [[[1, 0], [0, 1]]], [[(1, 0)]], [b"01"], b"01"])
+    "", "012", "a", ["01", "0b"], [["a"]], [["0", "1"]], [["x", 1]], [[None, 1]], [1, 0], [[[1, 0], [0, 1]]], [[(1, 0)]], [b"01"], b"01", 3, None,
+    len])
 def test_what_is_no_bitmap(bitmap):
     """Letters and a third axis are no pixels, though Python takes both for true."""
     with pytest.raises((ValueError, TypeError)) as told:

@@ -1,5 +1,6 @@
 """Reconstruction, holes, borders, extrema, components and distances: worked rows, the definitions, and what is refused."""
 from concurrent.futures import ThreadPoolExecutor
+from pathlib import Path
 
 import cases
 import numpy as np
@@ -55,6 +56,17 @@ def test_domes_and_basins():
     """The dome of height 2 is gone, and 2 is cut off that of height 5; basins likewise."""
     same(morphd.hmax(row(0, 2, 0, 5, 1), 2, SIDES), row(0, 0, 0, 3, 1))
     same(morphd.hmin(row(9, 7, 9, 4, 8), 2, SIDES, maxval=9), row(9, 9, 9, 6, 8))
+
+
+def test_tops_and_floors_of_sets():
+    """A set has levels up to 1. Of a single level it has none."""
+    mask = set_of(0, 1, 1, 0, 1)
+    same(morphd.h_maxima(mask, 1), mask)
+    same(morphd.h_minima(mask, 1), ~mask)
+    same(morphd.h_maxima(np.array([[0, 255, 7, 0, 1]], np.uint8).view(bool), 1), mask)
+    for given, h in ((mask, 2), (mask | True, 1), (mask & False, 1), (mask[:, :0], 1)):
+        same(morphd.h_maxima(given, h), given & False)
+        same(morphd.h_minima(given, h), given & False)
 
 
 def test_regional_extrema():
@@ -585,17 +597,31 @@ def test_refusals(number, call):
     (lambda: morphd.remove_small_objects(SET, -1), ValueError, "from 0 on"),
     (lambda: morphd.hmax(GREY, 1.5), TypeError, "h is a whole number"),
     (lambda: morphd.area_opening(SET, 2.0), TypeError, "area_threshold is a whole number"),
-    (lambda: morphd.area_opening(GREY / 2), TypeError, "computes with samples"),
-    (lambda: morphd.area_closing(GREY.astype(int)), TypeError, "computes with samples"),
+    (lambda: morphd.area_opening(GREY / 2), TypeError, "order of samples alone"),
+    (lambda: morphd.area_closing(GREY.astype(int)), TypeError, "order of samples alone"),
     (lambda: morphd.area_closing(GREY, 2, 3), ValueError, "connectivity is 1"),
     (lambda: morphd.label(SET, 3), ValueError, "connectivity is 1"),
     (lambda: morphd.label(SET, 0), ValueError, "connectivity is 1"),
     (lambda: morphd.label(SET, "4"), TypeError, "connectivity is a whole number"),
-    (lambda: morphd.label(SET[0]), ValueError, "two axes"),
+    (lambda: morphd.label(SET[0]), ValueError, "two axes, and this array has 1: take plane after plane"),
+    (lambda: morphd.h_maxima(np.stack([GREY, GREY]), 1), ValueError, "two axes, and this array has 3: take plane after plane"),
+    (lambda: morphd.hmax(np.stack([GREY, GREY]), 1), ValueError, "two axes, and this array has 3: axes=.ROWS, COLUMNS. says"),
+    (lambda: morphd.fill_holes(np.stack([GREY, GREY]), axes=0), TypeError, "axes are two whole numbers, those of the rows"),
+    (lambda: morphd.reconstruction(np.stack([GREY, GREY]), np.stack([GREY, GREY]), axes=(1,)), TypeError, "axes are two whole numbers"),
+    (lambda: morphd.area_opening(np.stack([GREY, GREY]), axes="xy"), TypeError, "axes are two whole numbers"),
+    (lambda: morphd.clear_border(np.stack([GREY, GREY]), 1, axes=(0.0, 1)), TypeError, "axes are two whole numbers"),
+    (lambda: morphd.clear_border(np.stack([GREY, GREY]), 1, axes=(1, -2)), ValueError, "axes are two of the 3 axes of the array"),
+    (lambda: morphd.clear_border(np.stack([GREY, GREY]), 1, axes=(1, 3)), ValueError, "axes are two of the 3 axes of the array"),
+    (lambda: morphd.fill_holes(GREY, 3), TypeError, "a footprint is a bitmap, as square.3. or"),
+    (lambda: morphd.label(Path("grains.png")), TypeError, "this is a path: morphd.read.'grains.png'. makes one of a picture"),
+    (lambda: morphd.fill_holes("grains.png"), TypeError, "this is a path"),
+    (lambda: morphd.h_maxima(GREY / 2, 1), TypeError, "h_maxima takes arrays of bool, uint8 and uint16"),
+    (lambda: morphd.h_minima(GREY, 1.5), TypeError, "h is a whole number"),
+    (lambda: morphd.fill_holes(GREY, out=np.ma.array(GREY)), TypeError, "out is a NumPy array, and no masked one"),
     (lambda: morphd.distance(SET, "taxicab"), ValueError, "metric is one of"),
-    (lambda: morphd.clear_border(GREY / 2), TypeError, "computes with samples"),
-    (lambda: morphd.hmax(GREY / 2, 1), TypeError, "computes with samples"),
-    (lambda: morphd.local_maxima(GREY.astype(int)), TypeError, "computes with samples"),
+    (lambda: morphd.clear_border(GREY / 2), TypeError, "order of samples alone"),
+    (lambda: morphd.hmax(GREY / 2, 1), TypeError, "order of samples alone"),
+    (lambda: morphd.local_maxima(GREY.astype(int)), TypeError, "order of samples alone"),
     (lambda: morphd.fill_holes(np.array([["a"]])), TypeError, "bool, integers and floats"),
     (lambda: morphd.fill_holes(np.ma.masked_equal(GREY, 3)), TypeError, "masked"),
     (lambda: morphd.fill_holes(GREY, out=np.zeros((1, 3), bool)), ValueError, "out is an array of uint8"),

@@ -194,7 +194,7 @@ def test_no_grains(mask):
     grains = morphd.regions(mask, pixel="2um", intensity=np.zeros(mask.shape))
     assert len(grains) == 0 and list(grains) == [] and all(len(grains[name]) == 0 for name in grains.columns)
     told = grains.summary()
-    assert told.count == 0 and np.isnan(told.mean) and str(told).startswith("0 grains, 0 µm² in all")
+    assert told.count == 0 and np.isnan(told.mean) and str(told).startswith("0 grains, 0 µm² in all") and "nan" not in str(told)
     assert grains.histogram()[0].sum() == 0 and not grains.mask.any() and len(grains.inside) == 0
     out = io.StringIO()
     grains.to_csv(out)
@@ -280,6 +280,14 @@ def test_summaries():
     assert "cut" not in str(grains.inside.summary()) and grains.summary().column == "equivalent_diameter"
     with pytest.raises(KeyError):
         grains.summary("size")
+
+
+def test_equal_grains_have_no_spread():
+    """By area, too, where a mean of thirds would be off by a rounding."""
+    for count in (1, 3):
+        told = morphd.regions(np.tile(np.pad(np.ones((1, 3), bool), 1), count), pixel=0.5).summary()
+        assert (told.count, told.spread, told.area_spread) == (count, 0, 0)
+        assert told.mean == told.area_mean == told.least == told.greatest
 
 
 def test_histograms():

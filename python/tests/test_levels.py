@@ -55,4 +55,6 @@ def test_what_has_no_level():
     for image in (np.ones((3, 3), bool), np.ones((3, 3))):
         with pytest.raises(TypeError, match="uint8 and uint16"):
             morphd.otsu(image)
+    with pytest.raises(TypeError, match="masked"):
+        morphd.otsu(np.ma.masked_equal(np.array([[1, 2, 9]], np.uint8), 9))
     assert morphd.otsu(np.array([[[1, 1]], [[2, 5]]], ">u2")) == 3

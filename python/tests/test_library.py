@@ -218,9 +218,9 @@ def test_examples_of_docstrings():
     """Run where NumPy prints as the examples have it."""
     import doctest
 
-    from morphd import curves, footprints, geodesics, grains, operators, watersheds
+    from morphd import areas, curves, footprints, geodesics, grains, operators, watersheds
 
-    for module in (footprints, operators, geodesics, grains, curves, watersheds):
+    for module in (footprints, operators, geodesics, areas, grains, curves, watersheds):
         outcome = doctest.testmod(module)
         assert outcome.failed == 0
     assert outcome.attempted > 0
@@ -230,9 +230,9 @@ def test_every_public_function_tells_its_parameters():
     """As NumPy has them: each parameter stands in the docstring."""
     import inspect
 
-    from morphd import curves, geodesics, grains, operators, watersheds
+    from morphd import areas, curves, geodesics, grains, operators, watersheds
 
-    for module in (operators, geodesics, grains, curves, watersheds):
+    for module in (operators, geodesics, areas, grains, curves, watersheds):
         for name in module.__all__:
             function = getattr(module, name)
             if inspect.isfunction(function):

@@ -247,7 +247,7 @@ def test_all_of_65536_values_and_one_more():
 
 @pytest.mark.parametrize("name", ["gradient", "white_tophat", "black_tophat", "hit_or_miss"])
 def test_what_computes_takes_no_ordered_levels(name):
-    with pytest.raises(TypeError, match="computes with samples"):
+    with pytest.raises(TypeError, match="order of samples alone"):
         getattr(morphd, name)(np.array([[1.5, 2.5]]), [[1, 0]])
 
 

@@ -232,16 +232,15 @@ def test_arrays_without_samples():
 
 
 def test_where_scikit_image_has_the_same():
-    """Where each pixel has neighbours of a single label when its turn comes, and markers stand in minima."""
+    """Where each pixel has neighbours of a single label when its turn comes, and the markers are the minima, each with one."""
     segmentation = pytest.importorskip("skimage.segmentation")
     compared = 0
-    for rng, image, _, mask in random_cases(6, 400, 7):
+    for _, image, _, mask in random_cases(6, 600, 5):
         if image.dtype == bool or min(image.shape) < 3:
             continue
         for connectivity in (1, 2):
-            minima = morphd.local_minima(image, morphd.diamond(1) if connectivity == 1 else morphd.square(3))
-            labels = morphd.label(minima if mask is None else minima & mask, connectivity)
-            markers = np.where(labels <= rng.integers(1, 4), labels, 0)
+            within_mask = image if mask is None else np.where(mask, image, np.iinfo(image.dtype).max)
+            markers = morphd.label(morphd.local_minima(within_mask, morphd.diamond(1) if connectivity == 1 else morphd.square(3)), connectivity)
             ties = []
 
             def chosen(beside):
@@ -265,6 +264,14 @@ def test_where_scikit_image_differs():
     image, markers = row(9, 2, 2, 3, 1), numbers(6, 0, 0, 0, 5)
     assert segmentation.watershed(image, markers).tolist() == [[6, 5, 5, 5, 5]]
     assert morphd.watershed(image, markers).tolist() == [[6, 6, 6, 6, 5]]
+    # without ties: there a basin without a marker is filled at once by who comes first, here from both banks, a round after the other
+    image, markers = row(0, 5, 1, 1, 5, 0), numbers(1, 0, 0, 0, 0, 2)
+    assert segmentation.watershed(image, markers).tolist() == [[1, 1, 1, 1, 2, 2]]
+    assert morphd.watershed(image, markers).tolist() == [[1, 1, 1, 2, 2, 2]]
+    # without ties: there a marker over its neighbours spreads when its own level comes
+    image, markers = np.array([[3, 0], [2, 1], [1, 1]], np.uint8), np.array([[0, 0], [2, 0], [1, 0]], np.int32)
+    assert segmentation.watershed(image, markers).tolist() == [[1, 1], [2, 1], [1, 1]]
+    assert morphd.watershed(image, markers).tolist() == [[2, 2], [2, 2], [1, 1]]
 
 
 def test_a_number_of_markers():

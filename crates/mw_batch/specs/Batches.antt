@@ -8,6 +8,7 @@ use Rattle.mw_model.specs.declared.requests.End.{End}
 use Rattle.mw_model.specs.declared.requests.End.TheVariants as end
 use Rattle.mw_model.specs.Machine.{Machine, start_state}
 use Rattle.mw_model.specs.Scripts.{Turn, IsScript, IsBroken}
+use Rattle.mw_grid.specs.Grids.{IsTileSide}
 use Rattle.mw_session.specs.mw_wire.Faults.{fault_line}
 use Rattle.mw_session.specs.mw_wire.Writes.{CutsShort}
 use Rattle.mw_session.specs.mw_wire.declared.fault.SessionFault.{SessionFault}
@@ -19,6 +20,10 @@ use Rattle.mw_session.specs.Runs.{Ran}
 use Rattle.mw_session.specs.Tallies.{AreReplies, has_refusal, line_behind}
 use Rattle.mw_batch.specs.EndLines.{end_line}
 use Rattle.mw_batch.specs.Strict.{strict_status}
+
+-- a side that tiles may have, or 0: then each command has tiles of a side that suits its elements
+abbrev pub IsSideAsked : ℕ → Type 0
+IsSideAsked side = (side ≡ 0) ⊎ IsTileSide side
 
 -- What is seen of the ends of a session: what is known of what the reader has left, how often it was read and whether it failed; what is known of what the writer holds, and whether it failed; what is known of what the writer of faults holds, and whether it failed.
 pub record SessionEnds : Type 0 where

@@ -5,11 +5,12 @@
 //! let mut source = Source::new(rt.stdin());
 //! let mut sink = Sink::new(rt.stdout());
 //! let status = batch(crew, &mut source, &mut sink, &mut faults, 128); // `strict_batch`: 3 where a reply was a refusal
+//! // `watched_batch`: as long as its results are wanted
 //! ```
 #![tactic(auto)]
 
 mod script;
 mod told;
 
-pub use mw_session::Crew;
-pub use script::{batch, strict_batch};
+pub use mw_session::{Crew, Pick};
+pub use script::{batch, strict_batch, watched_batch};

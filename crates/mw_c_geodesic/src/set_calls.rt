@@ -10,7 +10,7 @@ ghost use Rattle.mw_c_calls.specs.Calls.{call_fault, room_case};
 ghost use Rattle.mw_c_geodesic.specs.CallFaults.{nothing_case};
 ghost use Rattle.mw_c_geodesic.specs.Told.{IsSymmetricAnswer};
 
-use crate::answers::answer_bytes;
+use crate::answers::{answer, answer_bytes};
 use crate::area::large;
 use crate::changing::{Change, changed};
 use mw_c_arrays::{Bitmap, Set};
@@ -112,5 +112,5 @@ pub fn area_set(
         origin_x: element_x,
         origin_y: element_y,
     };
-    answer_bytes(large(alloc, least, image, &element, out.len()), out)
+    answer(large(alloc, least, image, &element, out))
 }

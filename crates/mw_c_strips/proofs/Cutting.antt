@@ -18,8 +18,8 @@ use Rattle.mw_tile.specs.Windows.{SourceWindow, window_of}
 use Rattle.mw_step_task.specs.Sources.{AreCut}
 use Rattle.mw_step_task.specs.WindowTasks.{FitsStep, KindsFit, WindowTask, source_count, tile_made}
 use Rattle.mw_step_task.proofs.Cut.{fits_cut, here_sample, made_of_cut}
-use Rattle.mw_c_strips.specs.declared.layers.Rule.{Rule}
-use Rattle.mw_c_strips.specs.declared.layers.Rule.TheVariants as rules
+use Rattle.mw_c_lent.specs.declared.rules.Rule.{Rule}
+use Rattle.mw_c_lent.specs.declared.rules.Rule.TheVariants as rules
 use Rattle.mw_c_strips.specs.Layers.{rule_picture, step_of}
 use Rattle.mw_c_strips.specs.Parts.{IsStrip, made_picture, part_of}
 
@@ -31,15 +31,6 @@ strip_inside r f strip =
     let wide = strip.wide in
     let low = strip.low in
     record { across = omega arith; down = omega arith }
-
--- what is read for a strip is a strip
-pub read_strip : (m n : ℕ) (r : Rect) (reach : Reach) (f : Picture) → m ≡ f.width → n ≡ f.height → IsStrip r f → IsStrip (grown m n reach r) f
-read_strip m n r reach f wide high strip =
-    let left = strip.left in
-    let over = strip.wide in
-    let some = strip.some in
-    let low = strip.low in
-    record { left = omega arith; wide = omega arith; some = omega arith; low = omega arith }
 
 grown_whole : (m n : ℕ) (r : Reach) → grown m n r (rect 0 0 m n) ≡ rect 0 0 m n
 grown_whole m n r =

@@ -6,21 +6,19 @@ use Rattle.mw_model.specs.Flat.{minus}
 use Rattle.mw_model.specs.Laws.{SameShape}
 use Rattle.mw_model.specs.Pictures.{IsPicture, Picture}
 use Rattle.mw_model.specs.Rectangles.{rect}
-use Rattle.mw_model.proofs.ImageLaws.{dilation_picture, erosion_picture, minus_picture, rank_picture, threshold_picture}
+use Rattle.mw_model.proofs.ImageLaws.{minus_picture}
 use Rattle.mw_tile.specs.Windows.{SourceWindow, window_of}
-use Rattle.mw_step_task.proofs.Cut.{plane_of_one}
-use Rattle.std.specs.Prelude.{cond, nat_le}
-use Rattle.std.specs.Arc.{arc_value}
 use Rattle.mw_model.specs.declared.shapes.Kind.TheVariants as kind
 use Rattle.mw_c_arrays.proofs.SourceImages.{source_image}
+use Rattle.mw_c_lent.proofs.Steps.{rule_is_picture}
 use Rattle.mw_c_strips.specs.Origins.{IsOrigin, origin_picture}
 use Rattle.mw_c_strips.proofs.OriginImages.{origin_image}
 use Rattle.mw_c_strips.specs.declared.layers.Formula.{Formula}
 use Rattle.mw_c_strips.specs.declared.layers.Formula.TheVariants.{One, Less}
 use Rattle.mw_c_strips.specs.declared.layers.Layer.{Layer}
 use Rattle.mw_c_strips.specs.declared.layers.Layer.TheVariants.{By, Itself}
-use Rattle.mw_c_strips.specs.declared.layers.Rule.{Rule}
-use Rattle.mw_c_strips.specs.declared.layers.Rule.TheVariants as rules
+use Rattle.mw_c_lent.specs.declared.rules.Rule.{Rule}
+use Rattle.mw_c_lent.specs.declared.rules.Rule.TheVariants as rules
 use Rattle.mw_c_strips.specs.Layers.{IsFormula, first_origin, formula_picture, layer_picture, origin_of, rule_picture}
 use Rattle.mw_c_strips.specs.Parts.{IsStrip, part_of, whole_window}
 
@@ -36,9 +34,6 @@ layer_sides (By r f) is = let image = origin_image f is in record { wide = image
 -- a strip of what a rule makes is one of what it looks at
 pub strip_below : (r : Rule) (f : Picture) (strip : Rect) → IsStrip strip (rule_picture r f) → IsStrip strip f
 strip_below r f strip is = record { left = is.left; wide = is.wide; some = is.some; low = is.low }
-
-pub strip_above : (r : Rule) (f : Picture) (strip : Rect) → IsStrip strip f → IsStrip strip (rule_picture r f)
-strip_above r f strip is = record { left = is.left; wide = is.wide; some = is.some; low = is.low }
 
 -- a strip of a difference is one of each of its two images
 pub strip_first : (a b : Picture) (strip : Rect) → IsStrip strip (minus a b) → IsStrip strip a
@@ -75,12 +70,6 @@ two_windows a b r w v ws alike whole first second is =
     ∙ ap (λ (x : SourceWindow). window_of r a ∷ x ∷ []) (second ∙ ap (λ (m : ℕ). window_of (rect 0 0 m b.height) b) alike.width ∙ ap (λ (n : ℕ). window_of (rect 0 0 a.width n) b) alike.height ∙ ap (λ (t : Rect). window_of t b) (sym whole))
 
 -- ---- they are images
-
-pub rule_is_picture : (r : Rule) (f : Picture) → IsPicture f → IsPicture (rule_picture r f)
-rule_is_picture (rules.Least e) f is = erosion_picture (arc_value e.now).offsets f
-rule_is_picture (rules.Greatest e) f is = dilation_picture (arc_value e.now).offsets f is
-rule_is_picture (rules.Nth e k) f is = rank_picture (arc_value e.now).offsets k f is
-rule_is_picture (rules.AtLeast k) f is = subst (λ (g : Picture). IsPicture g) (sym (plane_of_one kind.Bit 1 (λ n. cond (nat_le k n) 1 0) f)) (threshold_picture k f)
 
 pub layer_is_picture : (l : Layer) → IsOrigin (origin_of l) → IsPicture (layer_picture l)
 layer_is_picture (Itself f) is = (source_image f is).picture

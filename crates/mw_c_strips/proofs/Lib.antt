@@ -7,10 +7,8 @@ mod RowCells
 mod OriginImages
 mod Gathered
 mod InPlace
-mod UnderBoxes
 mod PixelValues
 mod SmallLevels
 mod Refilled
 mod Standing
 mod SomeRows
-mod Written

@@ -1,31 +1,17 @@
 -- What rules make at one place.
-use Rattle.std.proofs.Common.{◌≡◌, ℕ, ◌+◌, ◌-◌, ◌*◌, ◌<◌, List, [], ◌∷◌, ap, sym, ◌∙◌, arith, cond, nat_le}
+use Rattle.std.proofs.Common.{◌≡◌, ℕ, ◌+◌, ◌-◌, ◌*◌, ◌<◌, [], ◌∷◌, ap, sym, ◌∙◌, arith, cond, nat_le}
 use Rattle.std.proofs.lemmas.Nat.{mul-add-lt}
 use Rattle.std.proofs.Math.Nat.{mul_comm}
-use Rattle.mw_model.specs.declared.offsets.Offset.{Offset}
-use Rattle.mw_model.specs.Flat.{greatest, least, minus, under}
+use Rattle.mw_model.specs.Flat.{minus}
 use Rattle.mw_model.specs.Pictures.{Picture, sample}
-use Rattle.mw_model.specs.PlanSteps.{AtLeast, Dilate, Erode, PlanStep, Rank, kind_of_step, maxval_of_step, ranked, step_at}
-use Rattle.mw_model.specs.Plans.{plane_of, sight_of}
-use Rattle.mw_model.proofs.ImagePlaces.{sample-drawn, sample-redrawn}
+use Rattle.mw_model.specs.PlanSteps.{AtLeast}
+use Rattle.mw_model.specs.Plans.{plane_of}
+use Rattle.mw_model.proofs.ImagePlaces.{sample-redrawn}
 use Rattle.mw_step_task.proofs.Cut.{here_sample}
 use Rattle.mw_c_arrays.specs.declared.sources.ArrayImage.{ArrayImage}
 use Rattle.mw_c_arrays.specs.Sources.{IsArrayImage, array_sample_count, picture_in}
+use Rattle.mw_c_lent.proofs.Steps.{step_there}
 use Rattle.mw_c_strips.proofs.Filtered.{fills}
-
-step_there : (s : PlanStep) (f : Picture) (x y : ℕ) → x < f.width → y < f.height
-    → sample (plane_of s (f ∷ []) f.width f.height) x y ≡ step_at s f.maxval (sight_of (f ∷ []) 0) (sight_of (f ∷ []) 1) (sight_of (f ∷ []) 2) x y
-step_there s f x y across down =
-    sample-drawn (kind_of_step s f.kind) f.width f.height (maxval_of_step s f.maxval) (λ u v. step_at s f.maxval (sight_of (f ∷ []) 0) (sight_of (f ∷ []) 1) (sight_of (f ∷ []) 2) u v) x y across down
-
-pub least_there : (e es : List Offset) (f : Picture) (x y n : ℕ) → x < f.width → y < f.height → es ≡ e → n ≡ least f.maxval (under f es x y) → n ≡ sample (plane_of (Erode e) (f ∷ []) f.width f.height) x y
-least_there e es f x y n across down same is = is ∙ ap (λ (t : List Offset). least f.maxval (under f t x y)) same ∙ sym (step_there (Erode e) f x y across down)
-
-pub greatest_there : (e es : List Offset) (f : Picture) (x y n : ℕ) → x < f.width → y < f.height → es ≡ e → n ≡ greatest (under f es x y) → n ≡ sample (plane_of (Dilate e) (f ∷ []) f.width f.height) x y
-greatest_there e es f x y n across down same is = is ∙ ap (λ (t : List Offset). greatest (under f t x y)) same ∙ sym (step_there (Dilate e) f x y across down)
-
-pub ranked_there : (e es : List Offset) (k : ℕ) (f : Picture) (x y n : ℕ) → x < f.width → y < f.height → es ≡ e → n ≡ ranked k (under f es x y) → n ≡ sample (plane_of (Rank e k) (f ∷ []) f.width f.height) x y
-ranked_there e es k f x y n across down same is = is ∙ ap (λ (t : List Offset). ranked k (under f t x y)) same ∙ sym (step_there (Rank e k) f x y across down)
 
 pub upper_there : (k : ℕ) (f : Picture) (x y level n : ℕ) → x < f.width → y < f.height → level ≡ sample f x y → n ≡ cond (nat_le k level) 1 0 → n ≡ sample (plane_of (AtLeast k) (f ∷ []) f.width f.height) x y
 upper_there k f x y level n across down same is =

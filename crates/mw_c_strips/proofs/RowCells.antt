@@ -1,48 +1,15 @@
 -- Rows of images: the samples of a strip, and cells that begin with those of an image.
-use Rattle.std.proofs.Common.{◌≡◌, ℕ, zero, suc, [], ◌∷◌, ◌+◌, ◌-◌, ◌*◌, ◌<◌, ◌≤◌, List, map, length, get_or, take, drop, refl, ap, sym, arith, ◌∙◌, length-take, length-drop, get_or-take, get_or-drop}
+use Rattle.std.proofs.Common.{◌≡◌, ℕ, zero, suc, [], ◌∷◌, ◌+◌, ◌-◌, ◌*◌, List, map, length, take, drop, refl, ap, ◌∙◌}
 use Rattle.std.specs.Prelude.{slice_range, All, nat_le, if◌then◌else◌}
 use Rattle.std.proofs.lemmas.List.{length-map}
 use Rattle.std.proofs.lemmas.List.Elements.{All-drop, All-take}
-use Rattle.std.proofs.lemmas.Nat.{mul-le, mul-add-lt}
-use Rattle.std.proofs.Math.Nat.{mul_comm}
 use Rattle.mw_model.specs.declared.offsets.Rect.{Rect}
 use Rattle.mw_model.specs.declared.shapes.Kind.TheVariants as kind
 use Rattle.mw_model.specs.Pictures.{Picture, picture, sample}
 use Rattle.mw_c_arrays.specs.Arrays.{set_in_bytes}
-use Rattle.mw_model.specs.Tasks.{cells_in}
-use Rattle.mw_tile_pieces.proofs.TileCells.{cells_in_is}
+use Rattle.mw_tile_pieces.proofs.TileCells.{length-cells_in}
+use Rattle.mw_c_lent.proofs.Rows.{rows_are}
 use Rattle.mw_c_strips.specs.Parts.{IsStrip, part_of}
-
-pub get_or-range : {A : Type 0} (xs : List A) (a n i : ℕ) (d : A) → i < n → get_or (slice_range xs a (a + n)) i d ≡ get_or xs (a + i) d
-get_or-range xs a n i d lt = get_or-take (a + n - a) (drop a xs) i d (omega arith) ∙ get_or-drop a xs i d
-
-length-range : {A : Type 0} (xs : List A) (a n : ℕ) → a + n ≤ length xs → length (slice_range xs a (a + n)) ≡ n
-length-range xs a n le = omega (arith, length-take (a + n - a) (drop a xs), length-drop a xs)
-
--- the rows of a strip end within the image
-pub strip_within : (r : Rect) (f : Picture) → IsStrip r f → r.y * r.width + r.height * r.width ≤ f.height * f.width
-strip_within r f strip =
-    let all : (r.y + r.height) * r.width ≤ f.height * f.width = mul-le (r.y + r.height) r.width f.height f.width strip.low (omega (arith, strip.wide)) in
-    omega (arith, all, split r.y r.height r.width)
-  where
-    split : (a b n : ℕ) → (a + b) * n ≡ a * n + b * n
-    split a b n = omega arith
-
--- the samples of a strip
-pub rows_are : (f : Picture) (r : Rect) → IsStrip r f → length f.samples ≡ f.height * f.width → slice_range f.samples (r.y * r.width) (r.y * r.width + r.height * r.width) ≡ cells_in r (sample f)
-rows_are f r strip size =
-    sym (cells_in_is r (sample f) part (length-range f.samples (r.y * r.width) (r.height * r.width) (omega (arith, strip_within r f strip, size))) each)
-  where
-    part : List ℕ
-    part = slice_range f.samples (r.y * r.width) (r.y * r.width + r.height * r.width)
-
-    each : (i j : ℕ) → i < r.width → j < r.height → get_or part (j * r.width + i) 0 ≡ sample f (r.x + i) (r.y + j)
-    each i j across down =
-        get_or-range f.samples (r.y * r.width) (r.height * r.width) (j * r.width + i) 0 (omega (arith, mul-add-lt j r.width i r.height down across, mul_comm r.width r.height))
-        ∙ ap (λ (t : ℕ). get_or f.samples t 0) (place r.y j r.width i r.x f.width strip.left strip.wide)
-      where
-        place : (y j w i x m : ℕ) → x ≡ 0 → w ≡ m → y * w + (j * w + i) ≡ (y + j) * m + (x + i)
-        place y j w i x m left wide = rw (left, sym wide) (omega arith)
 
 map-take : {A B : Type 0} (g : A → B) (n : ℕ) (xs : List A) → map g (take n xs) ≡ take n (map g xs)
 map-take g zero xs = refl
@@ -73,3 +40,10 @@ set_rows w h bytes cells r strip size is =
 -- what holds of all samples holds of those of a strip
 pub all_range : (P : ℕ → Type 0) (xs : List ℕ) (a b : ℕ) → All P xs → All P (slice_range xs a b)
 all_range P xs a b all = All-take P (b - a) (drop a xs) (All-drop P a xs all)
+
+-- what is made of a strip has a sample for each of its places, and the levels of the image
+pub part_size : (f g : Picture) (r : Rect) → g ≡ part_of f r → length g.samples ≡ r.height * r.width
+part_size f g r is = ap (λ (h : Picture). length h.samples) is ∙ length-cells_in r (sample f)
+
+pub part_top : (f g : Picture) (r : Rect) → g ≡ part_of f r → g.maxval ≡ f.maxval
+part_top f g r is = ap (λ (h : Picture). h.maxval) is

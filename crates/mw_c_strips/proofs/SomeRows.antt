@@ -1,5 +1,5 @@
 -- Arrays that take some rows of an image: what is asked of them, where the rows end, and that there is room for each.
-use Rattle.std.proofs.Common.{◌≡◌, ℕ, ◌+◌, ◌-◌, ◌*◌, ◌/◌, ◌%◌, ◌<◌, ◌≤◌, true, ◌&&◌, length, take, drop, ap, sym, subst, arith, ◌∙◌, inl, inr, length-take, length-drop}
+use Rattle.std.proofs.Common.{◌≡◌, ℕ, ◌+◌, ◌-◌, ◌*◌, ◌/◌, ◌%◌, ◌<◌, ◌≤◌, true, ◌&&◌, length, take, drop, ap, sym, subst, arith, ◌∙◌, inl, inr}
 use Rattle.std.specs.Prelude.{nat_le, ◌==◌}
 use Rattle.std.proofs.lemmas.Bool.{and_parts, cases_lt, eqb-true, le-leb, leb-true, lt-leb}
 use Rattle.std.proofs.lemmas.List.{take_all}
@@ -70,12 +70,6 @@ all_rows count f sides is =
 -- and these are the image
 pub all_from_first : (count : ℕ) (f : Picture) → length f.samples ≡ f.height * f.width → count ≡ f.height * f.width → rows_from 0 count f ≡ f.samples
 all_from_first count f size is = ap (λ (n : ℕ). take count (drop n f.samples)) (no_product f.width) ∙ take_all count f.samples (omega (arith, size, is))
-
--- there are so many samples
-pub length-rows_from : (first end count : ℕ) (f : Picture) → length f.samples ≡ f.height * f.width → EndAt first end count f → length (rows_from first count f) ≡ count
-length-rows_from first end count f size ends =
-    let all : end * f.width ≤ f.height * f.width = mul-le end f.width f.height f.width ends.within (omega arith) in
-    omega (arith, length-take count (drop (first * f.width) f.samples), length-drop (first * f.width) f.samples, all, ends.samples, size)
 
 -- ---- room in an array that begins with row `first`
 

@@ -1,35 +1,18 @@
 -- What is made at each place of images (own).
-use Rattle.std.specs.Prelude.{[], ◌∷◌}
-use Rattle.std.specs.Arc.{arc_value}
 use Rattle.mw_model.specs.Flat.{minus}
 use Rattle.mw_model.specs.Laws.{SameShape}
 use Rattle.mw_model.specs.Pictures.{Picture}
-use Rattle.mw_model.specs.Plans.{plane_of}
-use Rattle.mw_model.specs.PlanSteps.{PlanStep}
-use Rattle.mw_model.specs.PlanSteps as plan
 use Rattle.mw_c_arrays.specs.Sources.{picture_in}
+pub use Rattle.mw_c_lent.specs.Rules.{rule_picture, step_of}
 use Rattle.mw_c_strips.specs.declared.origins.Origin.{Origin}
 use Rattle.mw_c_strips.specs.declared.origins.Origin.TheVariants.{Array}
 use Rattle.mw_c_strips.specs.Origins.{IsOrigin, origin_picture}
 use Rattle.mw_plan.specs.declared.extremum.ExtremumKind.{ExtremumKind}
 use Rattle.mw_plan.specs.declared.extremum.ExtremumKind.TheVariants as extremum
-use Rattle.mw_c_strips.specs.declared.layers.Rule.{Rule}
-use Rattle.mw_c_strips.specs.declared.layers.Rule.TheVariants as rule
 use Rattle.mw_c_strips.specs.declared.layers.Layer.{Layer}
 use Rattle.mw_c_strips.specs.declared.layers.Layer.TheVariants.{Itself, By}
 use Rattle.mw_c_strips.specs.declared.layers.Formula.{Formula}
 use Rattle.mw_c_strips.specs.declared.layers.Formula.TheVariants.{One, Less}
-
--- the step of a plan that a rule is
-abbrev pub step_of : Rule → PlanStep
-step_of (rule.Least e) = plan.Erode (arc_value e.now).offsets
-step_of (rule.Greatest e) = plan.Dilate (arc_value e.now).offsets
-step_of (rule.Nth e k) = plan.Rank (arc_value e.now).offsets k
-step_of (rule.AtLeast k) = plan.AtLeast k
-
--- what a rule makes of an image
-abbrev pub rule_picture : Rule → Picture → Picture
-rule_picture r f = plane_of (step_of r) (f ∷ []) f.width f.height
 
 -- the image that a layer looks at
 abbrev pub origin_of : Layer → Origin

@@ -1,5 +1,3 @@
-pub mod Boxes
-pub mod InPlace
 pub mod Layers
 pub mod Origins
 pub mod Parts

@@ -13,10 +13,11 @@ ghost use Rattle.mw_c_strips.specs.Origins.{IsOrigin, origin_picture};
 
 use crate::Sample;
 use crate::gathering::{levels_made, set_made};
-use crate::layers::{Formula, Layer, Rule};
+use crate::layers::{Formula, Layer};
 use crate::origins::{Origin, is_set};
 use crate::writing::write_all;
 use mw_c_arrays::ArrayImage;
+use mw_c_lent::{Rule, put_two_steps};
 use mw_element::Element;
 use mw_model::NoMemory;
 use mw_plan::ExtremumKind;
@@ -112,7 +113,8 @@ fn filter_set<P: Sample>(
     write_all(alloc, Formula::One(second), out)
 }
 
-/// Writes an opening or a closing of levels.
+/// Writes an opening or a closing of levels: by one strip between the two steps where there are kernels for that, else with a plane
+/// between them.
 fn filter_levels<P: Sample>(
     alloc: Global,
     extremum: ExtremumKind,
@@ -128,9 +130,14 @@ fn filter_levels<P: Sample>(
     ensures kept { IfErr result (λ _. out.new ≡ out.old) }
 {
     let back = turned(alloc, b)?;
-    let plane = levels_made::<P>(alloc, slid(extremum, b), f)?;
+    let first = slid(extremum, b);
+    let second = slid_back(extremum, &back);
+    if put_two_steps(alloc, first, second, f, out)? {
+        return Ok(());
+    }
+    let plane = levels_made::<P>(alloc, first, f)?;
     let between = P::like(f, plane.as_slice());
-    one(alloc, slid_back(extremum, &back), between, out)
+    one(alloc, second, between, out)
 }
 
 /// Writes an opening or a closing.

@@ -12,10 +12,11 @@ ghost use Rattle.mw_c_strips.specs.Rows.{AreRows, rows_from};
 
 use crate::Sample;
 use crate::applying::slid;
-use crate::layers::{Formula, Layer, Rule};
+use crate::layers::{Formula, Layer};
 use crate::origins::Origin;
 use crate::writing::write_rows;
 use mw_c_arrays::ArrayImage;
+use mw_c_lent::Rule;
 use mw_element::Element;
 use mw_model::NoMemory;
 use mw_plan::ExtremumKind;

@@ -10,8 +10,9 @@ ghost use Rattle.mw_model.specs.PlanSteps.{ranked};
 ghost use Rattle.mw_c_strips.specs.Layers.{IsFormula, formula_picture, layer_picture, origin_of, rule_picture};
 ghost use Rattle.mw_c_strips.specs.Origins.{IsOrigin, origin_picture};
 
-use crate::layers::{Formula, Layer, Rule};
+use crate::layers::{Formula, Layer};
 use crate::origins::Origin;
+use mw_c_lent::Rule;
 use mw_element::Element;
 use mw_model::Offset;
 use std::sync::Arc;

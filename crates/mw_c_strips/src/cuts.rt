@@ -4,9 +4,10 @@ ghost use Rattle.std.specs.Prelude.{◌≡◌, ◌+◌, ◌<◌, ◌≤◌};
 ghost use Rattle.mw_model.specs.Pictures.{Picture};
 ghost use Rattle.mw_c_strips.specs.Parts.{IsStrip};
 
-use crate::layers::{Formula, Layer, Rule, origin_of};
+use crate::layers::{Formula, Layer, origin_of};
 use crate::origins::Origin;
 use mw_c_arrays::ArrayImage;
+use mw_c_lent::Rule;
 use mw_element::Element;
 use mw_model::Rect;
 use std::alloc::Global;

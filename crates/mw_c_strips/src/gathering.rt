@@ -9,10 +9,11 @@ ghost use Rattle.mw_c_strips.specs.Layers.{rule_picture};
 
 use crate::Sample;
 use crate::cuts::{ask_once, rows_of_layer, strip_from};
-use crate::layers::{Layer, Rule};
+use crate::layers::Layer;
 use crate::origins::Origin;
 use crate::strips::by_rule;
 use mw_c_arrays::ArrayImage;
+use mw_c_lent::Rule;
 use mw_model::NoMemory;
 use mw_pixel::words::stride;
 use mw_pixel::{Image, Plane, View, Words};

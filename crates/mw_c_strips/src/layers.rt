@@ -6,23 +6,10 @@ ghost use Rattle.mw_c_strips.specs.Layers.{origin_of, step_of};
 
 use crate::origins::Origin;
 use mw_c_arrays::ArrayImage;
-use mw_element::Element;
+use mw_c_lent::Rule;
 use mw_model::NoMemory;
 use mw_step_task::Step;
 use std::sync::Arc;
-
-/// What is made of the samples around a place.
-#[derive(Clone, Copy)]
-pub(crate) enum Rule<'a> {
-    /// The least under the element.
-    Least(&'a Arc<Element>),
-    /// The greatest under the element.
-    Greatest(&'a Arc<Element>),
-    /// Of those under the element in rising order, the one of this number, counted from 1.
-    Nth(&'a Arc<Element>, u32),
-    /// 1 where the level is this or more, else 0.
-    AtLeast(u32),
-}
 
 /// An image, or what a rule makes of one.
 #[derive(Clone, Copy)]

@@ -1,6 +1,7 @@
 //! Flat operators from a caller's array into a caller's array, by strips of rows: what a strip reads and what is made of it
 //! stay in the cache, and neither image is copied whole. An operator of two steps takes one frame of memory between them, of a set
-//! as words of 64 pixels. One of a single step makes any rows of its result alone.
+//! as words of 64 pixels; openings and closings of levels by full rectangles take one strip. One of a single step makes any rows of
+//! its result alone.
 //!
 //! ```text
 //! let f = ArrayImage::Grey8(Grey8 { samples: &bytes, width: 640, height: 480, maxval: 255 });
@@ -16,7 +17,6 @@ mod applying_rows;
 mod by_pixel;
 mod cuts;
 mod gathering;
-mod in_place;
 mod layers;
 mod origins;
 mod room;

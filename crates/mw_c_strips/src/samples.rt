@@ -1,24 +1,17 @@
 //! Samples of a caller's array.
 
-ghost use Rattle.std.specs.Prelude.{◌≡◌, ◌*◌, ◌≤◌, length, map, IfErr, IfOk, IfSome, false, true};
+ghost use Rattle.std.specs.Prelude.{◌≡◌, ◌≤◌, length, map};
 ghost use Rattle.mw_model.specs.declared.shapes.Kind.TheVariants as kind;
-ghost use Rattle.mw_model.specs.Flat.{greatest, least};
 ghost use Rattle.mw_model.specs.Pictures.{IsImage, Picture};
-ghost use Rattle.mw_model.specs.Rectangles.{box_offsets};
-ghost use Rattle.mw_model.specs.Windows.{seen_at};
 ghost use Rattle.mw_c_arrays.specs.Sources.{IsArrayImage, picture_in};
-ghost use Rattle.mw_c_strips.specs.Boxes.{IsMadeUnder};
 ghost use Rattle.mw_c_strips.specs.Parts.{refilled};
 
 use mw_c_arrays::{ArrayImage, Grey8, Grey16, Set, put_bytes, put_words};
-use mw_line_lent::{Lent, Max, Min, boxes_into};
-use mw_model::{NoMemory, OffsetBox, Rect};
+use mw_c_lent::Lendable;
 use mw_pixel::{Image, View};
-use mw_rank_lent::Vectored;
-use std::alloc::Global;
 
 /// A sample of an array that an operator writes.
-pub trait Sample: Vectored {
+pub trait Sample: Lendable {
     ghost use Rattle.std.specs.Prelude.{ℕ};
 
     /// Levels up to this maxval stand in such samples.
@@ -43,38 +36,6 @@ pub trait Sample: Vectored {
         requires image { IsImage (refilled (picture_in f) (map Self.level samples.now)) }
         ensures sound { IsArrayImage result }
         ensures image { picture_in result ≡ refilled (picture_in f.entry) (map Self.level samples.entry.now) };
-
-    /// The samples of an array in levels of grey, where they are of this type.
-    fn grey<'a>(f: ArrayImage<'a>) -> Option<&'a [Self]>
-        ensures { IfSome result (λ samples. map Self.level samples.now ≡ (picture_in f.entry).samples) };
-
-    /// Writes the least of the neutral sample and those that are lent under a box, at each place of a tile, if it can. Says whether it
-    /// did: where not, it writes nothing. It may want memory (`NoMemory`), but only before it writes.
-    fn least_into(
-        alloc: Global,
-        lent: &Lent<Self>,
-        offsets: OffsetBox,
-        neutral: Self,
-        tile: Rect,
-        out: &mut [Self],
-    ) -> Result<bool, NoMemory>
-        requires { length out.old ≡ tile.height * tile.width }
-        ensures made { IfOk result (λ done. done ≡ true → IsMadeUnder (least (Self.level neutral)) Self.level (seen_at lent.now) (box_offsets offsets) tile out.new) }
-        ensures left_out { IfOk result (λ done. done ≡ false → out.new ≡ out.old) }
-        ensures kept { IfErr result (λ _. out.new ≡ out.old) };
-
-    /// The same of the greatest, which is 0 where none is seen.
-    fn greatest_into(
-        alloc: Global,
-        lent: &Lent<Self>,
-        offsets: OffsetBox,
-        tile: Rect,
-        out: &mut [Self],
-    ) -> Result<bool, NoMemory>
-        requires { length out.old ≡ tile.height * tile.width }
-        ensures made { IfOk result (λ done. done ≡ true → IsMadeUnder greatest Self.level (seen_at lent.now) (box_offsets offsets) tile out.new) }
-        ensures left_out { IfOk result (λ done. done ≡ false → out.new ≡ out.old) }
-        ensures kept { IfErr result (λ _. out.new ≡ out.old) };
 
     ghost stands_within: { (m : ℕ) → stands m → m ≤ Self.top_level };
 }
@@ -111,35 +72,6 @@ impl Sample for u8 {
         }
     }
 
-    fn grey<'a>(f: ArrayImage<'a>) -> Option<&'a [u8]> {
-        match f {
-            ArrayImage::Grey8(f) => Some(f.samples),
-            ArrayImage::Grey16(_) => None,
-            ArrayImage::Pixels(_) => None,
-        }
-    }
-
-    fn least_into(
-        alloc: Global,
-        lent: &Lent<u8>,
-        offsets: OffsetBox,
-        neutral: u8,
-        tile: Rect,
-        out: &mut [u8],
-    ) -> Result<bool, NoMemory> {
-        boxes_into::<u8, Min>(alloc, lent, offsets, neutral, tile, out)
-    }
-
-    fn greatest_into(
-        alloc: Global,
-        lent: &Lent<u8>,
-        offsets: OffsetBox,
-        tile: Rect,
-        out: &mut [u8],
-    ) -> Result<bool, NoMemory> {
-        boxes_into::<u8, Max>(alloc, lent, offsets, 0, tile, out)
-    }
-
     ghost stands_within = { λ m e. e };
 }
 
@@ -172,35 +104,6 @@ impl Sample for u16 {
             ArrayImage::Grey8(_) => unreachable!(),
             ArrayImage::Pixels(_) => unreachable!(),
         }
-    }
-
-    fn grey<'a>(f: ArrayImage<'a>) -> Option<&'a [u16]> {
-        match f {
-            ArrayImage::Grey16(f) => Some(f.samples),
-            ArrayImage::Grey8(_) => None,
-            ArrayImage::Pixels(_) => None,
-        }
-    }
-
-    fn least_into(
-        alloc: Global,
-        lent: &Lent<u16>,
-        offsets: OffsetBox,
-        neutral: u16,
-        tile: Rect,
-        out: &mut [u16],
-    ) -> Result<bool, NoMemory> {
-        boxes_into::<u16, Min>(alloc, lent, offsets, neutral, tile, out)
-    }
-
-    fn greatest_into(
-        alloc: Global,
-        lent: &Lent<u16>,
-        offsets: OffsetBox,
-        tile: Rect,
-        out: &mut [u16],
-    ) -> Result<bool, NoMemory> {
-        boxes_into::<u16, Max>(alloc, lent, offsets, 0, tile, out)
     }
 
     ghost stands_within = { λ m e. e.1 };

@@ -12,10 +12,11 @@ ghost use Rattle.mw_c_strips.specs.Layers.{IsFormula, formula_picture, layer_pic
 ghost use Rattle.mw_c_strips.specs.Origins.{IsOrigin, origin_picture};
 ghost use Rattle.mw_c_strips.specs.Parts.{IsStrip, made_picture, part_of, whole_window};
 
-use crate::layers::{Formula, Layer, Rule, step_of};
+use crate::layers::{Formula, Layer, step_of};
 use crate::origins::Origin;
 use crate::rows::rows;
 use crate::windows::window;
+use mw_c_lent::Rule;
 use mw_grid::{grown, whole_frame};
 use mw_model::{NoMemory, Rect, TaskId};
 use mw_pixel::Image;

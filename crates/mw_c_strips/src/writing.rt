@@ -1,9 +1,12 @@
 //! Strips that are written one after another into a caller's array, which takes all rows of an image or some of them.
 
-ghost use Rattle.std.specs.Prelude.{◌≡◌, ℕ, ◌+◌, ◌*◌, ◌<◌, ◌≤◌, length, map, IfErr, IfOk, false, true};
+ghost use Rattle.std.specs.Prelude.{◌≡◌, ℕ, ◌+◌, ◌*◌, ◌<◌, ◌≤◌, length, map, IfErr, IfOk, IfSome, false, true};
 ghost use Rattle.mw_model.specs.Pictures.{Picture};
 ghost use Rattle.mw_c_arrays.specs.Sources.{IsArrayImage, picture_in};
-ghost use Rattle.mw_c_strips.specs.InPlace.{AreMiddleRows};
+ghost use Rattle.mw_c_lent.specs.InPlace.{AreMiddleRows};
+ghost use Rattle.mw_c_strips.specs.declared.origins.Origin.TheVariants.{Array};
+ghost use Rattle.mw_c_strips.specs.declared.layers.Layer.TheVariants.{By};
+ghost use Rattle.mw_c_strips.specs.declared.layers.Formula.TheVariants.{One};
 ghost use Rattle.mw_c_strips.specs.Layers.{IsFormula, first_origin, formula_picture, rule_picture};
 ghost use Rattle.mw_c_strips.specs.Parts.{HasImageRows, IsStrip, part_of};
 ghost use Rattle.mw_c_strips.specs.Rows.{AreRows, EndAt, rows_from};
@@ -11,10 +14,10 @@ ghost use Rattle.mw_c_strips.specs.Rows.{AreRows, EndAt, rows_from};
 use crate::Sample;
 use crate::by_pixel::level_at;
 use crate::cuts::{ask_once, rows_of, strip_from};
-use crate::in_place::{Middle, middle_of, put_middle};
 use crate::layers::{Formula, Layer, origin_of};
 use crate::origins::Origin;
 use crate::strips::strip_of;
+use mw_c_lent::{Middle, middle_of, put_middle};
 use mw_model::{NoMemory, Rect};
 use mw_pixel::Image;
 use std::alloc::Global;
@@ -215,6 +218,18 @@ fn put_around<P: Sample>(
     Ok(true)
 }
 
+/// Of the rows from `first` on up to `end` those that a kernel may make of rows that stand in an array.
+fn middle_in<'a>(formula: Formula<'a>, first: u32, end: u32) -> Option<Middle<'a>>
+    ensures { IfSome result (λ m. AreMiddleRows first end m × (formula.entry ≡ One (By m.rule (Array m.f)))) }
+{
+    match formula {
+        Formula::One(Layer::By(rule, Origin::Array(f))) => middle_of(rule, f, first, end),
+        Formula::One(Layer::By(_, Origin::Made(_))) => None,
+        Formula::One(Layer::Itself(_)) => None,
+        Formula::Less(_, _) => None,
+    }
+}
+
 /// Writes what the formula makes from row `first` on, as many rows as the array has: in place where there is a kernel for that,
 /// else strip by strip.
 pub(crate) fn write_rows<P: Sample>(
@@ -230,7 +245,7 @@ pub(crate) fn write_rows<P: Sample>(
     ensures kept { IfErr result (λ _. out.new ≡ out.old) }
 {
     let end = end_of(formula, first, out.len());
-    if let Some(middle) = middle_of(formula, first, end) {
+    if let Some(middle) = middle_in(formula, first, end) {
         if put_around(alloc, middle, first, end, out)? {
             return Ok(());
         }

@@ -9,7 +9,8 @@ use Rattle.clap.specs.declared.parser.matches.ArgMatches.{ArgMatches}
 use Rattle.clap.specs.declared.parser.matches.ArgMatches.TheViews.{out-ArgMatches, out-SubCommand}
 use Rattle.clap.specs.declared.parser.matches.SubCommand.{SubCommand}
 use Rattle.std.specs.Box.{box_value}
-use Rattle.mw_cli.specs.CommandLine.{AreListens, AreServes, AreTaken, AsksNoCrew, AsksNoneUpTo, AsksUpTo, AsksWorkers, Faults, IsCrew, IsRefused, IsUpTo, Reads, WritesNoPort, WritesNone, WritesNumber, program_words, text_in, usual_workers}
+use Rattle.mw_grid.specs.Grids.{IsTileSide}
+use Rattle.mw_cli.specs.CommandLine.{AreListens, AreServes, AreTaken, AsksNoCrew, AsksNoSide, AsksNoneUpTo, AsksSide, AsksUpTo, AsksWorkers, Faults, IsCrew, IsRefused, IsUpTo, Reads, WritesNoPort, WritesNone, WritesNumber, program_words, text_in, usual_workers}
 use Rattle.mw_cli.specs.declared.fault.LineFault.{LineFault}
 use Rattle.mw_cli.specs.declared.fault.LineFault.TheVariants as fault
 
@@ -95,6 +96,24 @@ unread_is_no_number E most None x h asked is = h.0 refl
 unread_is_no_number E most (Some t) x h None is = is
 unread_is_no_number E most (Some t) x h (Some n) is = h.1 n is.0
 
+pub asks_no_side : (text : Option Text) → text ≡ None → AsksSide text None
+asks_no_side None e = refl
+asks_no_side (Some t) e = cc
+
+pub asks_side : (text : Option Text) (n : ℕ) → WritesNumber text n → IsTileSide n → AsksSide text (Some n)
+asks_side None n w ok = absurd w
+asks_side (Some t) n w ok = (w, ok)
+
+pub no_other_side : (text : Option Text) (m : ℕ) → WritesNumber text m → (IsTileSide m → ⊥) → AsksNoSide text
+no_other_side None m v bad asked is = absurd v
+no_other_side (Some t) m v bad None is = is
+no_other_side (Some t) m v bad (Some n) is = bad (subst IsTileSide (one_number (Some t) n m is.0 v) is.1)
+
+pub unread_is_no_side : (E : Type 0) (text : Option Text) (x : E) → Reads text (Err x) → AsksNoSide text
+unread_is_no_side E None x h asked is = h.0 refl
+unread_is_no_side E (Some t) x h None is = is
+unread_is_no_side E (Some t) x h (Some n) is = h.1 n is.0
+
 -- the name of the job that the matches have
 pub name-rows : (m : ArgMatches) → subcommand_name_of m ≡ option_map (λ p. p.0) (subcommand_rows_of m)
 name-rows m = go (out-ArgMatches m).subcommand
@@ -127,4 +146,6 @@ faults_refuse processors words fault.Idle taken h = (taken, h)
 faults_refuse processors words fault.Queue taken h = (taken, h)
 faults_refuse processors words fault.Grace taken h = (taken, h)
 faults_refuse processors words fault.Status taken h = (taken, h)
+faults_refuse processors words fault.Time taken h = (taken, h)
+faults_refuse processors words fault.Memory taken h = (taken, h)
 faults_refuse processors words fault.NoMemory taken h = tt

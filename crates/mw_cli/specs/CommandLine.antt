@@ -39,7 +39,7 @@ flag_option name = record (new_rule name) {
 
 -- `--tile T`, 128 where it is left out
 abbrev pub tile_option : Rule
-tile_option = usual_option (codes "tile") (codes "128")
+tile_option = number_option (codes "tile")
 
 -- `--idle S`; clap has no number for it where it is left out
 abbrev pub idle_option : Rule
@@ -88,10 +88,20 @@ queue_option = number_option (codes "queue")
 abbrev pub status_option : Rule
 status_option = number_option (codes "status")
 
--- `serve [--port P] [--workers W] [--sessions C] [--tile T] [--idle S] [--until-end] [--grace S] [--queue N] [--status P]`; left out, the port is 0, the workers are 1 and the sessions 16
+-- `--time S`; clap has no number for it where it is left out
+abbrev pub time_option : Rule
+time_option = number_option (codes "time")
+
+-- `--memory M`; clap has no number for it where it is left out
+abbrev pub memory_option : Rule
+memory_option = number_option (codes "memory")
+
+-- `serve [--port P] [--workers W] [--sessions C] [--tile T] [--idle S] [--until-end] [--grace S] [--queue N] [--status P] [--time S] [--memory M]`; left out, the port is 0, the workers are 1 and the sessions 16
 abbrev pub serve_words : App
 serve_words =
     with_rule
+    (with_rule
+    (with_rule
     (with_rule
     (with_rule
     (server_words
@@ -102,7 +112,9 @@ serve_words =
     (flag_option (codes "until-end")))
     grace_option)
     queue_option)
-    status_option
+    status_option)
+    time_option)
+    memory_option
 
 -- `morphd`, which has a version to show
 abbrev pub bare_words : App
@@ -145,13 +157,19 @@ Reads text (Ok (Some n)) = WritesNumber text n
 Reads text (Ok None) = text ≡ None
 Reads text (Err e) = (text ≡ None → ⊥) × ((n : ℕ) → WritesNumber text n → ⊥)
 
--- the text writes no side of tiles
-abbrev pub WritesNoSide : Option Text → Type 0
-WritesNoSide text = (side : ℕ) → WritesNumber text side → IsTileSide side → ⊥
+-- the text asks for a side of tiles; left out, it asks for none
+abbrev pub AsksSide : Option Text → Option ℕ → Type 0
+AsksSide None asked = asked ≡ None
+AsksSide (Some text) None = ⊥
+AsksSide (Some text) (Some side) = WritesNumber (Some text) side × IsTileSide side
 
--- the text writes a side of tiles
-abbrev pub WritesSide : Option Text → Type 0
-WritesSide text = (side : ℕ) × WritesNumber text side × IsTileSide side
+-- the text asks for no side of tiles, and not for none
+abbrev pub AsksNoSide : Option Text → Type 0
+AsksNoSide text = (asked : Option ℕ) → AsksSide text asked → ⊥
+
+-- the text asks for a side of tiles, or for none
+abbrev pub AsksSomeSide : Option Text → Type 0
+AsksSomeSide text = (asked : Option ℕ) × AsksSide text asked
 
 -- a number from 1 to the most that there may be
 abbrev pub IsUpTo : ℕ → ℕ → Type 0
@@ -226,7 +244,7 @@ WritesNoPort text = (n : ℕ) → WritesNumber text n → n ≤ 65535 → ⊥
 abbrev pub AsksBatch : ℕ → Option (Text × List Row) → BatchOptions → Type 0
 AsksBatch processors rows given =
     (AsksWorkers processors (text_in (codes "workers") rows) given.workers × IsCrew given.workers)
-    × (WritesNumber (text_in (codes "tile") rows) given.side × IsTileSide given.side)
+    × AsksSide (text_in (codes "tile") rows) given.side
     × Sets (text_in (codes "strict") rows) given.strict
 
 -- the rows ask for this server
@@ -235,7 +253,7 @@ AsksListen rows given =
     (WritesNumber (text_in (codes "port") rows) given.port × IsUpTo 65535 given.port)
     × (WritesNumber (text_in (codes "workers") rows) given.workers × IsCrew given.workers)
     × (WritesNumber (text_in (codes "sessions") rows) given.sessions × IsUpTo 64 given.sessions)
-    × (WritesNumber (text_in (codes "tile") rows) given.side × IsTileSide given.side)
+    × AsksSide (text_in (codes "tile") rows) given.side
     × AsksIdle (text_in (codes "idle") rows) given.idle
     × Sets (text_in (codes "announce") rows) given.announce
 
@@ -245,11 +263,13 @@ AsksServe rows given =
     (WritesNumber (text_in (codes "port") rows) given.port × (given.port ≤ 65535))
     × (WritesNumber (text_in (codes "workers") rows) given.workers × IsCrew given.workers)
     × (WritesNumber (text_in (codes "sessions") rows) given.sessions × IsUpTo 1024 given.sessions)
-    × (WritesNumber (text_in (codes "tile") rows) given.side × IsTileSide given.side)
+    × AsksSide (text_in (codes "tile") rows) given.side
     × AsksIdle (text_in (codes "idle") rows) given.idle
     × AsksUpTo 1024 (text_in (codes "queue") rows) given.queue
     × (WritesNumber (text_in (codes "grace") rows) given.grace × IsUpTo 86400 given.grace)
     × AsksUpTo 65535 (text_in (codes "status") rows) given.status
+    × AsksUpTo 86400 (text_in (codes "time") rows) given.time
+    × AsksUpTo 1048576 (text_in (codes "memory") rows) given.memory
     × Sets (text_in (codes "until-end") rows) given.until_end
 
 -- the rows ask for this job
@@ -267,7 +287,7 @@ abbrev pub FaultsBatch : ℕ → Option (Text × List Row) → LineFault → Typ
 FaultsBatch processors rows fault.Workers = AsksNoCrew processors (text_in (codes "workers") rows)
 FaultsBatch processors rows fault.Tile =
     ((n : ℕ) × AsksWorkers processors (text_in (codes "workers") rows) n × IsCrew n)
-    × WritesNoSide (text_in (codes "tile") rows)
+    × AsksNoSide (text_in (codes "tile") rows)
 FaultsBatch processors rows f = ⊥
 
 -- this is the first fault of a server's numbers
@@ -284,12 +304,12 @@ FaultsListen rows fault.Tile =
     WritesUpTo 65535 (text_in (codes "port") rows)
     × WritesUpTo 64 (text_in (codes "workers") rows)
     × WritesUpTo 64 (text_in (codes "sessions") rows)
-    × WritesNoSide (text_in (codes "tile") rows)
+    × AsksNoSide (text_in (codes "tile") rows)
 FaultsListen rows fault.Idle =
     WritesUpTo 65535 (text_in (codes "port") rows)
     × WritesUpTo 64 (text_in (codes "workers") rows)
     × WritesUpTo 64 (text_in (codes "sessions") rows)
-    × WritesSide (text_in (codes "tile") rows)
+    × AsksSomeSide (text_in (codes "tile") rows)
     × AsksNoIdle (text_in (codes "idle") rows)
 FaultsListen rows f = ⊥
 
@@ -307,25 +327,25 @@ FaultsServe rows fault.Tile =
     WritesPort (text_in (codes "port") rows)
     × WritesUpTo 64 (text_in (codes "workers") rows)
     × WritesUpTo 1024 (text_in (codes "sessions") rows)
-    × WritesNoSide (text_in (codes "tile") rows)
+    × AsksNoSide (text_in (codes "tile") rows)
 FaultsServe rows fault.Idle =
     WritesPort (text_in (codes "port") rows)
     × WritesUpTo 64 (text_in (codes "workers") rows)
     × WritesUpTo 1024 (text_in (codes "sessions") rows)
-    × WritesSide (text_in (codes "tile") rows)
+    × AsksSomeSide (text_in (codes "tile") rows)
     × AsksNoIdle (text_in (codes "idle") rows)
 FaultsServe rows fault.Queue =
     WritesPort (text_in (codes "port") rows)
     × WritesUpTo 64 (text_in (codes "workers") rows)
     × WritesUpTo 1024 (text_in (codes "sessions") rows)
-    × WritesSide (text_in (codes "tile") rows)
+    × AsksSomeSide (text_in (codes "tile") rows)
     × AsksSome 86400 (text_in (codes "idle") rows)
     × AsksNoneUpTo 1024 (text_in (codes "queue") rows)
 FaultsServe rows fault.Grace =
     WritesPort (text_in (codes "port") rows)
     × WritesUpTo 64 (text_in (codes "workers") rows)
     × WritesUpTo 1024 (text_in (codes "sessions") rows)
-    × WritesSide (text_in (codes "tile") rows)
+    × AsksSomeSide (text_in (codes "tile") rows)
     × AsksSome 86400 (text_in (codes "idle") rows)
     × AsksSome 1024 (text_in (codes "queue") rows)
     × WritesNone 86400 (text_in (codes "grace") rows)
@@ -333,11 +353,32 @@ FaultsServe rows fault.Status =
     WritesPort (text_in (codes "port") rows)
     × WritesUpTo 64 (text_in (codes "workers") rows)
     × WritesUpTo 1024 (text_in (codes "sessions") rows)
-    × WritesSide (text_in (codes "tile") rows)
+    × AsksSomeSide (text_in (codes "tile") rows)
     × AsksSome 86400 (text_in (codes "idle") rows)
     × AsksSome 1024 (text_in (codes "queue") rows)
     × WritesUpTo 86400 (text_in (codes "grace") rows)
     × AsksNoneUpTo 65535 (text_in (codes "status") rows)
+FaultsServe rows fault.Time =
+    WritesPort (text_in (codes "port") rows)
+    × WritesUpTo 64 (text_in (codes "workers") rows)
+    × WritesUpTo 1024 (text_in (codes "sessions") rows)
+    × AsksSomeSide (text_in (codes "tile") rows)
+    × AsksSome 86400 (text_in (codes "idle") rows)
+    × AsksSome 1024 (text_in (codes "queue") rows)
+    × WritesUpTo 86400 (text_in (codes "grace") rows)
+    × AsksSome 65535 (text_in (codes "status") rows)
+    × AsksNoneUpTo 86400 (text_in (codes "time") rows)
+FaultsServe rows fault.Memory =
+    WritesPort (text_in (codes "port") rows)
+    × WritesUpTo 64 (text_in (codes "workers") rows)
+    × WritesUpTo 1024 (text_in (codes "sessions") rows)
+    × AsksSomeSide (text_in (codes "tile") rows)
+    × AsksSome 86400 (text_in (codes "idle") rows)
+    × AsksSome 1024 (text_in (codes "queue") rows)
+    × WritesUpTo 86400 (text_in (codes "grace") rows)
+    × AsksSome 65535 (text_in (codes "status") rows)
+    × AsksSome 86400 (text_in (codes "time") rows)
+    × AsksNoneUpTo 1048576 (text_in (codes "memory") rows)
 FaultsServe rows f = ⊥
 
 -- this is the first fault of the job's numbers

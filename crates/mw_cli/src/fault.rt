@@ -21,6 +21,8 @@ pub enum LineFault {
     Queue,
     Grace,
     Status,
+    Time,
+    Memory,
     NoMemory,
 }
 
@@ -51,6 +53,8 @@ impl LineFault {
             LineFault::Queue => eprintln!(rt; "error: queue must be from 1 to 1024"),
             LineFault::Grace => eprintln!(rt; "error: grace must be from 1 to 86400"),
             LineFault::Status => eprintln!(rt; "error: status must be from 1 to 65535"),
+            LineFault::Time => eprintln!(rt; "error: time must be from 1 to 86400"),
+            LineFault::Memory => eprintln!(rt; "error: memory must be from 1 to 1048576"),
             LineFault::NoMemory => eprintln!(rt; "error: memory"),
         }
     }

@@ -2,8 +2,7 @@
 
 ghost use Rattle.std.specs.Prelude.{◌≡◌, ◌≤◌, ◌∷◌, [], false, ◌↔◌, codes, IfOk, IfErr, IfSome, IsTrue, None, map};
 ghost use Rattle.clap.specs.Words.{app_of, kind_of, new_app, rule_of, subcommand_rows_of};
-ghost use Rattle.mw_cli.specs.CommandLine.{AreListens, AreServes, Asks, AsksBatch, AsksIdle, AsksListen, AsksNoCrew, AsksNoIdle, AsksNoneUpTo, AsksServe, AsksUpTo, AsksWorkers, Faults, FaultsBatch, FaultsListen, FaultsServe, HasNoGlobals, IsAsked, IsCrew, IsNoText, IsRefused, IsUpTo, Reads, Sets, WritesNumber, WritesNone, WritesNoPort, WritesNoSide, bare_words, batch_words, flag_option, listen_words, number_option, program_words, serve_words, text_in, tile_option, usual_option, usual_workers};
-ghost use Rattle.mw_grid.specs.Grids.{IsTileSide};
+ghost use Rattle.mw_cli.specs.CommandLine.{AreListens, AreServes, Asks, AsksBatch, AsksIdle, AsksListen, AsksNoCrew, AsksNoIdle, AsksNoSide, AsksNoneUpTo, AsksServe, AsksSide, AsksUpTo, AsksWorkers, Faults, FaultsBatch, FaultsListen, FaultsServe, HasNoGlobals, IsAsked, IsCrew, IsNoText, IsRefused, IsUpTo, Reads, Sets, WritesNumber, WritesNone, WritesNoPort, bare_words, batch_words, flag_option, listen_words, number_option, program_words, serve_words, text_in, tile_option, usual_option, usual_workers};
 ghost use Rattle.std.specs.String.{string_bytes};
 
 use crate::fault::LineFault;
@@ -35,10 +34,10 @@ pub enum Job {
     Serve(ServeOptions),
 }
 
-/// The side of the tiles, how many workers compute them, and whether the exit status tells that a request was refused.
+/// The side of the tiles if one is asked for, how many workers compute them, and whether the exit status tells that a request was refused.
 #[derive(Clone, Copy, Debug, PartialEq, Eq)]
 pub struct BatchOptions {
-    pub side: u32,
+    pub side: Option<u32>,
     pub workers: usize,
     pub strict: bool,
 }
@@ -50,25 +49,27 @@ pub struct ListenOptions {
     pub port: u16,
     pub workers: usize,
     pub sessions: usize,
-    pub side: u32,
+    pub side: Option<u32>,
     pub idle: Option<u32>,
     pub announce: bool,
 }
 
 /// The port to listen on, 0 for any; how many workers compute each session, how many sessions are served at once, the
 /// side of the tiles, how many seconds a session waits for its client, how many clients may wait for a session, how many
-/// seconds sessions go on once the service is to end, the port at which it says how it is, and whether the end of standard
-/// input ends it.
+/// seconds sessions go on once the service is to end, the port at which it says how it is, how many seconds a session may
+/// compute, how many MiB it may take, and whether the end of standard input ends it.
 #[derive(Clone, Copy, Debug, PartialEq, Eq)]
 pub struct ServeOptions {
     pub port: u16,
     pub workers: usize,
     pub sessions: usize,
-    pub side: u32,
+    pub side: Option<u32>,
     pub idle: Option<u32>,
     pub queue: Option<u32>,
     pub grace: u32,
     pub status: Option<u16>,
+    pub time: Option<u32>,
+    pub memory: Option<u32>,
     pub until_end: bool,
 }
 
@@ -123,8 +124,9 @@ fn tile_option<'a>(alloc: Global) -> Arg<'a>
     ensures rule { rule_of result ≡ tile_option }
     ensures local { result.global ≡ false }
 {
-    let help = "The side of a tile: a multiple of 64 from 64 to 1024";
-    usual_option(alloc, "tile", "T", help, "128")
+    let help =
+        "The side of a tile: a multiple of 64 from 64 to 1024 [default: what suits the element]";
+    number_option(alloc, "tile", "T", help)
 }
 
 // A job, before its options.
@@ -175,7 +177,11 @@ fn serve_command<'a>(alloc: Global) -> Result<Command<'a>, AllocError>
     let grace = "How many seconds sessions may go on when the service ends: 1 to 86400";
     let queue =
         "How many clients may wait for a session, and the next is told ERR 60 BUSY: 1 to 1024 [default: any number]";
-    let status = "The port where it tells in a line of JSON how it is: 1 to 65535 [default: none]";
+    let status =
+        "The port where it tells in a line of JSON how it is, and its resident bytes: 1 to 65535 [default: none]";
+    let time = "How many seconds a session may compute: 1 to 86400 [default: any time]";
+    let memory =
+        "How many MiB a session may take, and what goes over it is told ERR 50 MEMORY: 1 to 1048576 [default: all]";
     let about =
         "Serves sessions over TCP on 127.0.0.1, each on a table of its own, and says on which port";
     job_command(alloc, "serve", about, SERVING)
@@ -187,7 +193,9 @@ fn serve_command<'a>(alloc: Global) -> Result<Command<'a>, AllocError>
         .arg(flag_option(alloc, "until-end", until))?
         .arg(usual_option(alloc, "grace", "S", grace, "10"))?
         .arg(number_option(alloc, "queue", "N", queue))?
-        .arg(number_option(alloc, "status", "P", status))
+        .arg(number_option(alloc, "status", "P", status))?
+        .arg(number_option(alloc, "time", "S", time))?
+        .arg(number_option(alloc, "memory", "M", memory))
 }
 
 // The program, without its jobs.
@@ -221,13 +229,15 @@ fn number_of(matches: &ArgMatches<'_>, id: &str) -> Result<Option<u32>, ParseInt
     }
 }
 
-// The side of the tiles.
-fn side_of(matches: &ArgMatches<'_>) -> Result<u32, LineFault>
-    ensures ok { IfOk result (λ side. WritesNumber (text_in (codes "tile") (subcommand_rows_of matches.now)) side × IsTileSide side) }
-    ensures err { IfErr result (λ e. (e ≡ LineFault.Tile) × WritesNoSide (text_in (codes "tile") (subcommand_rows_of matches.now))) }
+// The side of the tiles; none where it is left out.
+#[tactic(auto, using(crate::proofs::CommandReads::asks_no_side, crate::proofs::CommandReads::asks_side, crate::proofs::CommandReads::unread_is_no_side, crate::proofs::CommandReads::no_other_side))]
+fn side_of(matches: &ArgMatches<'_>) -> Result<Option<u32>, LineFault>
+    ensures ok { IfOk result (AsksSide (text_in (codes "tile") (subcommand_rows_of matches.now))) }
+    ensures err { IfErr result (λ e. (e ≡ LineFault.Tile) × AsksNoSide (text_in (codes "tile") (subcommand_rows_of matches.now))) }
 {
     match number_of(matches, "tile") {
-        Ok(Some(side)) if side_ok(side) => Ok(side),
+        Ok(None) => Ok(None),
+        Ok(Some(side)) if side_ok(side) => Ok(Some(side)),
         _ => Err(LineFault::Tile),
     }
 }
@@ -393,6 +403,8 @@ fn serve_of(matches: &ArgMatches<'_>) -> Result<ServeOptions, LineFault>
         return Err(LineFault::Grace);
     };
     let status = status_of(matches)?;
+    let time = asked_up_to(matches, "time", 86400, LineFault::Time)?;
+    let memory = asked_up_to(matches, "memory", 1048576, LineFault::Memory)?;
     Ok(ServeOptions {
         port,
         workers: workers as usize,
@@ -402,6 +414,8 @@ fn serve_of(matches: &ArgMatches<'_>) -> Result<ServeOptions, LineFault>
         queue,
         grace,
         status,
+        time,
+        memory,
         until_end: flag_of(matches, "until-end"),
     })
 }
@@ -478,7 +492,7 @@ fn is_memory(error: &clap::Error) -> bool
 
 /// What the words ask for; the first of them is the program's name. Clap reads them first, then the
 /// numbers are tested: the port, the workers, the sessions, the side of the tiles, the seconds that a session waits, and
-/// then the queue, the seconds of grace and the port of the status. Left out, the workers of a batch are as many as there are processors, and at most 16.
+/// then the queue, the seconds of grace, the port of the status, the seconds of computing and the memory of a session. Left out, the workers of a batch are as many as there are processors, and at most 16.
 pub fn options(alloc: Global, words: &[String], processors: usize) -> Result<Job, LineFault>
     ensures job { IfOk result (IsAsked processors (map string_bytes words.now)) }
     ensures fault { IfErr result (IsRefused processors (map string_bytes words.now)) }

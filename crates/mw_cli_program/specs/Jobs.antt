@@ -1,7 +1,6 @@
 -- What a job leaves behind (own).
-use Rattle.std.specs.Prelude.{◌≡◌, ◌≤◌, ◌⊎◌, ℕ, Bool, MatchBool}
-use Rattle.mw_server_serve.specs.mw_batch.Batches.{Served, ServedStrictly, SessionEnds, Unserved}
-use Rattle.mw_grid.specs.Grids.{IsTileSide}
+use Rattle.std.specs.Prelude.{◌≡◌, ◌≤◌, ◌⊎◌, ℕ, Bool, MatchBool, Option, Some, None}
+use Rattle.mw_server_serve.specs.mw_batch.Batches.{IsSideAsked, Served, ServedStrictly, SessionEnds, Unserved}
 use Rattle.mw_cli.specs.declared.line.Job.{Job}
 use Rattle.mw_cli.specs.declared.line.Job.TheVariants as job
 use Rattle.mw_server_listen.specs.Listening.{AnnouncesIf, IsOfSession, Listened}
@@ -9,15 +8,20 @@ use Rattle.mw_server_listen.specs.Listening as listening
 use Rattle.mw_server_serve.specs.Services.{Offered}
 use Rattle.mw_server_serve.specs.Services as services
 
+-- the side of tiles that is asked for, or 0
+abbrev pub side_in : Option ℕ → ℕ
+side_in None = 0
+side_in (Some side) = side
+
 -- a job with numbers that the command line lets through
 abbrev pub IsPossible : Job → Type 0
-IsPossible (job.Batch given) = IsTileSide given.side
+IsPossible (job.Batch given) = IsSideAsked (side_in given.side)
 IsPossible (job.Listen given) =
     (1 ≤ given.port)
     × ((1 ≤ given.workers) × (given.workers ≤ 64))
     × ((1 ≤ given.sessions) × (given.sessions ≤ 64))
-    × IsTileSide given.side
-IsPossible (job.Serve given) = IsTileSide given.side
+    × IsSideAsked (side_in given.side)
+IsPossible (job.Serve given) = IsSideAsked (side_in given.side)
 
 -- what `listen` sees of the writer of faults
 abbrev pub told_of_board : SessionEnds → listening.Told

@@ -1,1 +1,3 @@
 pub mod Jobs
+-- what lower crates offer
+pub mod mw_batch

@@ -1,18 +1,19 @@
 //! A job: from what the command line asks for to the exit status.
 
 ghost use Rattle.std.specs.Prelude.{◌≡◌, false};
-ghost use Rattle.mw_server_serve.specs.mw_batch.Batches.{SessionEnds, ends_of};
-ghost use Rattle.mw_grid.specs.Grids.{IsTileSide};
+ghost use Rattle.mw_server_serve.specs.mw_batch.Batches.{IsSideAsked, SessionEnds, ends_of};
 ghost use Rattle.mw_server_serve.specs.mw_wire.Failures.{IsUnread};
-ghost use Rattle.mw_cli_program.specs.Jobs.{IsPossible, Performed, Scripted};
+ghost use Rattle.mw_cli_program.specs.Jobs.{IsPossible, Performed, Scripted, side_in};
 
 use mw_cli::{BatchOptions, Job, ListenOptions, ServeOptions, VERSION};
 use mw_server_listen::{Kernels, listen};
 use mw_server_serve::wire::{Sink, Source};
 use mw_server_serve::{Crew, batch, serve, strict_batch};
 use std::alloc::Global;
+use std::fs::File;
 use std::io::{Read, Write};
 use std::net::{Net, TcpListener, TcpStream};
+use std::rt::Files;
 use std::sync::Wait;
 use std::thread::Threads;
 use std::time::Clock;
@@ -41,6 +42,13 @@ fn ask_once(alloc: Global) {
     }
 }
 
+/// The side of tiles that is asked for, or 0.
+fn side_of(asked: Option<u32>) -> u32
+    ensures { result ≡ side_in asked }
+{
+    asked.unwrap_or(0)
+}
+
 /// Runs a script, strictly where that is asked for.
 fn run_batch<R: Threads + Sync, I: Read, O: Write, F: Write>(
     crew: Crew<R>,
@@ -49,7 +57,7 @@ fn run_batch<R: Threads + Sync, I: Read, O: Write, F: Write>(
     sink: &mut Sink<O>,
     faults: &mut Sink<F>,
 ) -> u8
-    requires side { IsTileSide given.now.side }
+    requires side { IsSideAsked (side_in given.now.side) }
     requires source_fresh { IsUnread source.old.failed source.old.reads }
     requires sink_clear { sink.old.failed ≡ false }
     ensures { let old : SessionEnds = ends_of I.remaining O.contents F.contents source.old sink.old faults.old in
@@ -58,9 +66,9 @@ fn run_batch<R: Threads + Sync, I: Read, O: Write, F: Write>(
 {
     ask_once(crew.alloc);
     if given.strict {
-        strict_batch(crew, source, sink, faults, given.side)
+        strict_batch(crew, source, sink, faults, side_of(given.side))
     } else {
-        batch(crew, source, sink, faults, given.side)
+        batch(crew, source, sink, faults, side_of(given.side))
     }
 }
 
@@ -69,7 +77,7 @@ fn board_service(given: &ListenOptions) -> mw_server_listen::Service
     ensures port { result.port ≡ given.now.port }
     ensures workers { result.workers ≡ given.now.workers }
     ensures sessions { result.sessions ≡ given.now.sessions }
-    ensures side { result.side ≡ given.now.side }
+    ensures side { result.side ≡ side_in given.now.side }
     ensures idle { result.idle ≡ given.now.idle }
     ensures announce { result.announce ≡ given.now.announce }
 {
@@ -77,7 +85,7 @@ fn board_service(given: &ListenOptions) -> mw_server_listen::Service
         port: given.port,
         workers: given.workers,
         sessions: given.sessions,
-        side: given.side,
+        side: side_of(given.side),
         idle: given.idle,
         announce: given.announce,
     }
@@ -88,21 +96,25 @@ fn separate_service(given: &ServeOptions) -> mw_server_serve::Service
     ensures port { result.port ≡ given.now.port }
     ensures workers { result.workers ≡ given.now.workers }
     ensures sessions { result.sessions ≡ given.now.sessions }
-    ensures side { result.side ≡ given.now.side }
+    ensures side { result.side ≡ side_in given.now.side }
     ensures idle { result.idle ≡ given.now.idle }
     ensures queue { result.queue ≡ given.now.queue }
     ensures grace { result.grace ≡ given.now.grace }
+    ensures time { result.time ≡ given.now.time }
     ensures status { result.status ≡ given.now.status }
+    ensures memory { result.memory ≡ given.now.memory }
 {
     mw_server_serve::Service {
         port: given.port,
         workers: given.workers,
         sessions: given.sessions,
-        side: given.side,
+        side: side_of(given.side),
         idle: given.idle,
         queue: given.queue,
         grace: given.grace,
+        time: given.time,
         status: given.status,
+        memory: given.memory,
         version: VERSION,
     }
 }
@@ -111,7 +123,12 @@ fn separate_service(given: &ServeOptions) -> mw_server_serve::Service
 /// the sink on which port. A service that is to end with its input reads the source for that alone. The line of a fault goes
 /// to `faults`.
 pub fn perform<
-    R: Net<Listener = TcpListener, Stream = TcpStream> + Threads + Wait + Clock + Sync,
+    R: Net<Listener = TcpListener, Stream = TcpStream>
+        + Files<File = File>
+        + Threads
+        + Wait
+        + Clock
+        + Sync,
     I: Read,
     O: Write,
     F: Write,

@@ -17,16 +17,15 @@ impl Core {
     ghost use Rattle.mw_model.specs.Refusals.{refusal};
     ghost use Rattle.mw_model.specs.Scripts.{refused_unread};
     ghost use Rattle.mw_model.specs.Stands.{StandsFor};
-    ghost use Rattle.mw_grid.specs.Grids.{IsTileSide};
     ghost use Rattle.mw_core_ledger.specs.mw_core_laws.Payloads.{given_image, image_payload, given_element, element_payload};
     ghost use Rattle.mw_core_refusals.specs.Faults.{IsFault};
     ghost use Rattle.mw_core_ledger.specs.Short.{is_long};
     ghost use Rattle.mw_core_ledger.specs.mw_core_laws.Events.{FollowsMachine, IsFresh};
     ghost use Rattle.mw_core_ledger.specs.mw_core_laws.Rows.{IsLogFull};
 
-    /// A core that has accepted nothing yet. The side is that of the tiles, in pixels.
+    /// A core that has accepted nothing yet. The side is that of the tiles, in pixels: a multiple of 64 from 64 to 1024. With any
+    /// other number, such as 0, the tiles of each command have a side that suits its elements.
     pub fn new(alloc: Global, side: u32) -> Result<Self, NoMemory>
-        requires { IsTileSide side }
         ensures stands { IfOk result (λ c. StandsFor c start_state) }
         ensures log { IfOk result (λ c. c.log ≡ []) }
         ensures side { IfOk result (λ c. c.side ≡ side) }

@@ -19,7 +19,9 @@
 #![tactic(auto)]
 
 mod answers;
+mod bytes;
 mod calls;
+mod costs;
 pub mod events;
 mod fetch;
 mod machine;
@@ -28,6 +30,7 @@ mod ready;
 mod tasks;
 
 pub use answers::{Finish, Refusal, Started};
+pub use bytes::{bytes_of_element, bytes_of_image};
 pub use machine::Core;
 pub use mw_core_ledger::{Fetched, FetchedValue};
 pub use mw_model::NoMemory;

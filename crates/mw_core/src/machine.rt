@@ -51,7 +51,6 @@ impl Core {
     ghost use Rattle.mw_core_ledger.specs.mw_core_laws.Facts.{IsComplete};
     ghost use Rattle.mw_core_ledger.specs.mw_core_laws.Limits.{FitsLimits, ShapesFit};
     ghost use Rattle.mw_core_ledger.specs.mw_core_laws.Rows.{IsLogFull};
-    ghost use Rattle.mw_grid.specs.Grids.{IsTileSide};
     ghost use Rattle.mw_core_ledger.specs.mw_core_tasks.Planning.{IsPlannedOn};
     ghost use Rattle.mw_core_ledger.specs.Short.{is_long};
     ghost use Rattle.mw_core_ledger.specs.Books.{progress_of};
@@ -60,7 +59,6 @@ impl Core {
     pub(crate) fn whole(&self)
         ensures complete { IsComplete self.now }
         ensures fits { ShapesFit self.now.table }
-        ensures side { IsTileSide self.now.side }
     {
         self.ledger.sound();
     }

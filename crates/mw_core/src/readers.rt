@@ -5,6 +5,9 @@ ghost use Rattle.std.specs.Prelude.{◌≡◌, ◌<◌, ◌&&◌, ◌||◌, Some
 use crate::machine::Core;
 use mw_model::{LogItem, Name};
 
+/// The least side of tiles that suit an element (`mw_core_tasks`).
+const LEAST_SUITED: u32 = 256;
+
 impl Core {
     ghost use Rattle.mw_model.specs.Values.{value_at};
     ghost use Rattle.mw_model.specs.Refusals.{ticket_of, outcome_at, is_done, is_released};
@@ -31,11 +34,19 @@ impl Core {
         self.ledger.store().find(name)
     }
 
-    /// The side of the tiles that its tasks make, in pixels.
+    /// The side of tiles that it was made with, in pixels; 0 where it is to suit the elements.
     pub fn side(&self) -> u32
         ensures { result ≡ self.now.side }
     {
         self.ledger.side()
+    }
+
+    /// The least side that its tasks' tiles have, in pixels, as far as the frame lets them.
+    pub fn least_side(&self) -> u32 {
+        match self.ledger.side() {
+            0 => LEAST_SUITED,
+            side => side,
+        }
     }
 
     /// How many items the log has.

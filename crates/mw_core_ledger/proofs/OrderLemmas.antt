@@ -24,7 +24,6 @@ use Rattle.mw_core_tasks.specs.mw_store.Entries.{submission_of, outcome_of}
 use Rattle.mw_core_tasks.specs.mw_store.Stored.{StoreIsWhole}
 use Rattle.mw_core_tasks.specs.mw_core_laws.Limits.{FitsLimits, ShapesFit}
 use Rattle.mw_core_tasks.specs.Planning.{IsPlannedAt, IsPlannedOn}
-use Rattle.mw_grid.specs.Grids.{IsTileSide}
 use Rattle.mw_core_ledger.specs.Books.{Book, IsOrderly, stored_in, work_at}
 
 -- ---- nothing yet
@@ -57,14 +56,13 @@ follows-orderly old new o f = record {
   planned = λ t u e. planned-table old.table new.table t u f.submissions (o.planned t u (f.in_progress t u e));
   left = λ t u e. o.left t u (f.in_progress t u e);
   most = λ t u e. o.most t u (f.in_progress t u e);
-  side = subst IsTileSide (sym f.side) o.side;
 }
 
 -- another log, and other room in it
 pub alike-orderly : (b : Book) (ws : List (Option ProgressView)) (log : List LogItem) (room : ℕ) → IsOrderly b → ws ≡ b.in_progress → IsOrderly (record b { in_progress = ws; log = log; room = room })
 alike-orderly b ws log room o same =
     let P : List (Option ProgressView) → Type 0 = λ xs. IsOrderly (record b { in_progress = xs; log = log; room = room }) in
-    subst P (sym same) (record { stored = o.stored; in_progress = o.in_progress; fits = o.fits; under = o.under; planned = o.planned; left = o.left; most = o.most; side = o.side })
+    subst P (sym same) (record { stored = o.stored; in_progress = o.in_progress; fits = o.fits; under = o.under; planned = o.planned; left = o.left; most = o.most })
 
 kept-was : (b : Bool) (o : Option ProgressView) (u : ProgressView) → cond b o None ≡ Some u → o ≡ Some u
 kept-was true o u e = e
@@ -223,7 +221,6 @@ joined-orderly b n e o kept u log room k j pends whole = record {
         | inl l ↦ k.most t v l.1
         | inr l ↦ some-has (λ (x : ProgressView). task_count x.progress ≤ 4194304) u v l.1 j.most
       ];
-  side = k.side;
 }
 
 -- ---- work that goes on
@@ -290,7 +287,6 @@ without-orderly b t k within =
       planned = λ i u h. k.planned i u (was i u h);
       left = λ i u h. k.left i u (was i u h);
       most = λ i u h. k.most i u (was i u h);
-      side = k.side;
     }
 
 -- with work that went on there
@@ -325,5 +321,4 @@ with-orderly b t old new k within there g left =
             | inl l ↦ of (λ (v : ProgressView). task_count v.progress ≤ 4194304) u l.1 most
             | inr e ↦ k.most i u e
           ];
-      side = k.side;
     }

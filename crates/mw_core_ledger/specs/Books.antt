@@ -8,7 +8,6 @@ use Rattle.mw_model.specs.Values.{Value}
 use Rattle.mw_model.specs.Refusals.{Table, is_pending, outcome_at}
 use Rattle.mw_model.specs.Stands.{CoreView}
 use Rattle.mw_model.specs.Tasks.{Progress, remaining_tasks, task_count}
-use Rattle.mw_grid.specs.Grids.{IsTileSide}
 use Rattle.mw_core_tasks.specs.mw_core_progress.ProgressView.{ProgressView}
 use Rattle.mw_core_tasks.specs.mw_store.Stored.{Stored, StoreIsWhole}
 use Rattle.mw_core_tasks.specs.mw_core_laws.Limits.{ShapesFit}
@@ -56,4 +55,3 @@ pub record IsOrderly (b : Book) : Type 0 where
   pub planned : (t : ℕ) (u : ProgressView) → work_at b.in_progress t ≡ Some u → IsPlannedAt b.table t u
   pub left : (t : ℕ) (u : ProgressView) → work_at b.in_progress t ≡ Some u → 1 ≤ remaining_tasks u.progress
   pub most : (t : ℕ) (u : ProgressView) → work_at b.in_progress t ≡ Some u → task_count u.progress ≤ TASK_LIMIT
-  pub side : IsTileSide b.side

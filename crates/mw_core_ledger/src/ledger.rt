@@ -51,12 +51,11 @@ impl Model for Ledger {
 
 impl Ledger {
     ghost use Rattle.std.specs.Prelude.{slice_get};
-    ghost use Rattle.mw_grid.specs.Grids.{IsTileSide};
     ghost use Rattle.mw_core_ledger.specs.Books.{IsOrderly, empty_book, stored_in};
 
-    /// A ledger without entries. The side is that of the tiles, in pixels.
+    /// A ledger without entries. The side is that of the tiles, in pixels; where tiles may not have it, those of each command have
+    /// one that suits it.
     pub fn new(alloc: Global, side: u32) -> Result<Ledger, NoMemory>
-        requires { IsTileSide side }
         ensures { IfOk result (λ l. l ≡ empty_book side) }
     {
         Ok(Ledger {
@@ -82,7 +81,7 @@ impl Ledger {
         &self.store
     }
 
-    /// The side of its tiles, in pixels.
+    /// The side of tiles that it was made with, in pixels.
     pub fn side(&self) -> u32
         ensures { result ≡ self.now.side }
     {

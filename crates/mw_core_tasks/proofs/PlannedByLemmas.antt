@@ -22,6 +22,7 @@ use Rattle.mw_core_laws.specs.mw_plan.Tables.{AreInputsOf, IsInputAt, IsInputOf}
 use Rattle.mw_core_laws.specs.mw_core_planes.Levels.{Level}
 use Rattle.mw_core_laws.specs.mw_core_progress.ProgressView.{IsWhole, IsWorkable, ProgressView, fresh}
 use Rattle.mw_core_laws.specs.Limits.{ShapesFit}
+use Rattle.mw_core_tasks.specs.Sides.{IsSideFor}
 use Rattle.mw_core_tasks.specs.SourceWindows.{IsInput}
 use Rattle.mw_core_tasks.specs.Planning.{IsAllowed, IsLookedUp, IsPlannedBy, level_of_shape}
 use Rattle.mw_core_tasks.proofs.PlanningLemmas.{IsElementAt, accepted-takes, each-ticket, first-there, fits-looked-up, image-told, shape-made-of}
@@ -112,9 +113,9 @@ reads-first w kept n o e t kind width height maxval side a b c plan u l made =
       third = subst Q (sym l.submission) takes.third;
     }
 
-pub planned-by : (w : Table) (kept : List (Option Value)) (n : Name) (o : Op) (e : Submission) (t : ℕ) (kind : Kind) (width height maxval side : ℕ) (a b c : Input) (plan : Plan) (u : ProgressView)
-    → LooksUp w kept n o e t (shape.Image kind width height maxval) a b c → fault_in o a b c ≡ None → IsPlanOf o a b c plan → IsMadeOf plan kind width height maxval side u → IsPlannedBy w kept o e side u
-planned-by w kept n o e t kind width height maxval side a b c plan u l none planned made =
+pub planned-by : (w : Table) (kept : List (Option Value)) (n : Name) (o : Op) (e : Submission) (t : ℕ) (kind : Kind) (width height maxval asked side : ℕ) (a b c : Input) (plan : Plan) (u : ProgressView)
+    → LooksUp w kept n o e t (shape.Image kind width height maxval) a b c → fault_in o a b c ≡ None → IsPlanOf o a b c plan → IsSideFor asked side → IsMadeOf plan kind width height maxval side u → IsPlannedBy w kept o e asked u
+planned-by w kept n o e t kind width height maxval asked side a b c plan u l none planned fits made =
     let s = shape.Image kind width height maxval in
     let same : plan ≡ u.progress.plan = sym (ap (λ (p : Progress). p.plan) made.progress) in
     let works = plan-works w kept n o e t s a b c plan l none planned in
@@ -131,16 +132,16 @@ planned-by w kept n o e t kind width height maxval side a b c plan u l none plan
       run = record { inputs = are-inputs w kept n o e t s a b c l; plan_of = subst (IsPlanOf o a b c) same planned };
       progress = subst Fresh same made.progress;
       on = record { input = reads-first w kept n o e t kind width height maxval side a b c plan u l made; allowed = on.0; last = on.1 };
-      tiles = ap (λ (g : Tiling). g.side) made.tiling;
+      tiles = subst (IsSideFor asked) (sym (ap (λ (g : Tiling). g.side) made.tiling)) fits;
       whole = made.whole;
     }
 
 -- so it is with the work, where memory was there for it
-pub planned-made : {E : Type 0} (r : Result ProgressView E) (w : Table) (kept : List (Option Value)) (n : Name) (o : Op) (e : Submission) (t : ℕ) (kind : Kind) (width height maxval side : ℕ) (a b c : Input) (plan : Plan) (g : Tiling)
-    → LooksUp w kept n o e t (shape.Image kind width height maxval) a b c → fault_in o a b c ≡ None → IsPlanOf o a b c plan → g ≡ tiling width height side
-    → IfOk r (λ u. u.progress ≡ fresh plan u.input g) → IfOk r (λ u. u.input ≡ record { kind = kind; maxval = maxval }) → IfOk r (λ u. u.tiling ≡ g) → IfOk r IsWhole → IfOk r (IsPlannedBy w kept o e side)
-planned-made (Err x) w kept n o e t kind width height maxval side a b c plan g l none planned is progress input tiled whole = tt
-planned-made (Ok u) w kept n o e t kind width height maxval side a b c plan g l none planned is progress input tiled whole =
+pub planned-made : {E : Type 0} (r : Result ProgressView E) (w : Table) (kept : List (Option Value)) (n : Name) (o : Op) (e : Submission) (t : ℕ) (kind : Kind) (width height maxval asked side : ℕ) (a b c : Input) (plan : Plan) (g : Tiling)
+    → LooksUp w kept n o e t (shape.Image kind width height maxval) a b c → fault_in o a b c ≡ None → IsPlanOf o a b c plan → IsSideFor asked side → g ≡ tiling width height side
+    → IfOk r (λ u. u.progress ≡ fresh plan u.input g) → IfOk r (λ u. u.input ≡ record { kind = kind; maxval = maxval }) → IfOk r (λ u. u.tiling ≡ g) → IfOk r IsWhole → IfOk r (IsPlannedBy w kept o e asked)
+planned-made (Err x) w kept n o e t kind width height maxval asked side a b c plan g l none planned fits is progress input tiled whole = tt
+planned-made (Ok u) w kept n o e t kind width height maxval asked side a b c plan g l none planned fits is progress input tiled whole =
     let Fresh : Tiling → Type 0 = λ x. u.progress ≡ fresh plan u.input x in
-    planned-by w kept n o e t kind width height maxval side a b c plan u l none planned
+    planned-by w kept n o e t kind width height maxval asked side a b c plan u l none planned fits
     (record { input = input; tiling = tiled ∙ is; progress = subst Fresh (sym tiled) progress; whole = whole })

@@ -1,4 +1,5 @@
 pub mod SourceWindows
+pub mod Sides
 pub mod Planning
 pub mod Results
 -- what lower crates offer

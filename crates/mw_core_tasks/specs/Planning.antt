@@ -19,6 +19,7 @@ use Rattle.mw_core_laws.specs.mw_plan.PlansOf.{IsPlanOf}
 use Rattle.mw_core_laws.specs.mw_plan.Tables.{AreInputsOf, IsInputOf}
 use Rattle.mw_core_laws.specs.mw_plan.declared.inputs.Input.{Input}
 use Rattle.mw_core_laws.specs.mw_plan.declared.inputs.Input.TheVariants as input
+use Rattle.mw_core_tasks.specs.Sides.{IsSideFor}
 use Rattle.mw_core_tasks.specs.SourceWindows.{IsInput}
 
 -- the level of an image of this shape
@@ -75,7 +76,7 @@ pub record IsPlannedRun (w : Table) (kept : List (Option Value)) (o : Op) (a b c
   pub inputs : AreInputsOf w kept (inputs_from w (inputs_wanted o)) a b c
   pub plan_of : IsPlanOf o a b c plan
 
--- The work of a command that is accepted: its plan is made of what the table and what is kept tell of its inputs, its tiles have this side, and nothing of it was started.
+-- The work of a command that is accepted: its plan is made of what the table and what is kept tell of its inputs, its tiles have this side where it was asked for, and nothing of it was started.
 pub record IsPlannedBy (w : Table) (kept : List (Option Value)) (o : Op) (e : Submission) (side : ℕ) (u : ProgressView) : Type 0 where
   pub a : Input
   pub b : Input
@@ -83,5 +84,5 @@ pub record IsPlannedBy (w : Table) (kept : List (Option Value)) (o : Op) (e : Su
   pub run : IsPlannedRun w kept o a b c u.progress.plan
   pub progress : u.progress ≡ fresh u.progress.plan u.input u.tiling
   pub on : IsPlannedOn w e u
-  pub tiles : u.tiling.side ≡ side
+  pub tiles : IsSideFor side u.tiling.side
   pub whole : IsWhole u

@@ -5,6 +5,7 @@
 mod planning;
 mod reading;
 mod results;
+mod sides;
 mod taking;
 
 pub use mw_core_laws::{

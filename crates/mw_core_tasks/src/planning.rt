@@ -7,9 +7,9 @@ ghost use Rattle.mw_model.specs.Refusals.{refusal};
 ghost use Rattle.mw_model.specs.Machine.{run_submission};
 ghost use Rattle.mw_core_laws.specs.mw_plan.Asked.{fault_in};
 ghost use Rattle.mw_core_laws.specs.Limits.{ShapesFit};
-ghost use Rattle.mw_grid.specs.Grids.{IsTileSide};
 ghost use Rattle.mw_core_tasks.specs.Planning.{IsLookedUp, IsPlannedBy};
 
+use crate::sides::side_for;
 use mw_core_laws::gran::plan_of_legal;
 use mw_core_laws::plan::Input;
 use mw_core_laws::{PlanProgress, ResolvedRun, Store};
@@ -17,7 +17,19 @@ use mw_grid::Grid;
 use mw_model::{Call, Name, NoMemory, Op, Shape};
 use std::alloc::Global;
 
-/// The work of a command that is accepted, on tiles of this side. Only memory can be wanting, since no fault was found.
+/// How far an input's element reaches to any side.
+fn farthest(input: Input<'_>) -> u32 {
+    match input {
+        Input::Element(element) => {
+            let reach = element.reach();
+            reach.up.max(reach.down).max(reach.left).max(reach.right)
+        }
+        _ => 0,
+    }
+}
+
+/// The work of a command that is accepted, on tiles of this side, or of one that suits its elements where tiles may not have
+/// it. Only memory can be wanting, since no fault was found.
 pub fn planned(
     alloc: Global,
     store: &Store,
@@ -34,7 +46,6 @@ pub fn planned(
     requires faultless { fault_in op run.a run.b run.c ≡ None }
     requires accepted { refusal store.now.table store.now.kept (Call.Run name op) ≡ None }
     requires fits { ShapesFit store.now.table }
-    requires side { IsTileSide side }
     ensures planned { IfOk result (IsPlannedBy store.now.table store.now.kept op run.entry.submission side) }
 {
     let Input::Image(shape) = run.a else {
@@ -44,6 +55,7 @@ pub fn planned(
         unreachable!()
     };
     let plan = plan_of_legal(alloc, &op, run.a, run.b, run.c)?;
-    let grid = Grid::new(width, height, side);
+    let tiles = side_for(side, farthest(run.b).max(farthest(run.c)));
+    let grid = Grid::new(width, height, tiles);
     PlanProgress::new(alloc, plan, grid, kind, maxval)
 }

@@ -35,12 +35,13 @@ fn answer(work: Work, tile: Result<TileResult, NoMemory>) -> Result<TileDone, Ta
 impl WaveTask {
     ghost use Rattle.mw_core_waves.specs.Jobs.{IsAnswered, IsMadeFor};
 
-    /// Runs the task that waits here, and keeps its answer in its place.
-    fn run(&mut self, alloc: Global)
+    /// Runs the task that waits here, or refuses it where it is not wanted, and keeps its answer in its place.
+    fn run(&mut self, alloc: Global, is_wanted: bool)
         ensures { IsAnswered self.old self.new }
     {
         *self = match mem::replace(self, WaveTask::Nothing) {
-            WaveTask::Waits(work) => WaveTask::Ran(mw_step::run(alloc, work)),
+            WaveTask::Waits(work) if is_wanted => WaveTask::Ran(mw_step::run(alloc, work)),
+            WaveTask::Waits(work) => WaveTask::Ran(Err(TaskRefused::new(work))),
             other => other,
         };
     }
@@ -57,8 +58,8 @@ impl WaveTask {
     }
 }
 
-/// Runs the tasks that wait yet in their places, one after another.
-fn run_rest<T: Threads + Sync>(crew: Crew<T>, jobs: &mut [WaveTask])
+/// Runs the tasks that wait yet in their places, one after another, or refuses them where they are not wanted.
+fn run_rest<T: Threads + Sync>(crew: Crew<T>, is_wanted: bool, jobs: &mut [WaveTask])
     ensures { AllZip IsAnswered jobs.old jobs.new }
 {
     let alloc = crew.alloc;
@@ -68,14 +69,15 @@ fn run_rest<T: Threads + Sync>(crew: Crew<T>, jobs: &mut [WaveTask])
         1,
         &move |_place: usize, job: &mut WaveTask|
             ensures { IsAnswered job.old job.new }
-        { job.run(alloc) },
+        { job.run(alloc, is_wanted) },
     );
 }
 
 /// Answers all tasks in their places by what was made of them: by the others, and by the one who has the core. What was lost
-/// for want of memory is run here.
+/// for want of memory is run here, and what is not wanted is refused.
 fn answer_all<T: Threads + Sync>(
     crew: Crew<T>,
+    is_wanted: bool,
     theirs: Result<Vec<Vec<MadeTile>>, AllocError>,
     mine: Vec<MadeTile>,
     jobs: &mut [WaveTask],
@@ -86,12 +88,13 @@ fn answer_all<T: Threads + Sync>(
 {
     put_all(theirs, jobs);
     put_hand(mine, jobs);
-    run_rest(crew, jobs);
+    run_rest(crew, is_wanted, jobs);
 }
 
-/// The wave with all tasks answered in their places.
+/// The wave with all tasks answered in their places; where they are not wanted, by a refusal.
 pub(crate) fn answered<T: Threads + Sync>(
     crew: Crew<T>,
+    is_wanted: bool,
     theirs: Result<Vec<Vec<MadeTile>>, AllocError>,
     mine: Vec<MadeTile>,
     mut jobs: Vec<WaveTask>,
@@ -100,6 +103,6 @@ pub(crate) fn answered<T: Threads + Sync>(
     requires mine { HandIsMade jobs.items mine }
     ensures { AllZip IsAnswered jobs.items result.items }
 {
-    answer_all(crew, theirs, mine, jobs.as_mut_slice());
+    answer_all(crew, is_wanted, theirs, mine, jobs.as_mut_slice());
     jobs
 }

@@ -22,6 +22,12 @@ pub use pick::Pick;
 pub use work::run_all_work;
 
 // What lower crates offer, for the crates above.
+pub mod values {
+    pub use mw_core::element::Element;
+    pub use mw_core::pixel::Image;
+    pub use mw_core::{Fetched, bytes_of_element, bytes_of_image};
+}
+
 pub mod payloads {
     pub use mw_session_laws::{read_element, read_image};
 }

@@ -5,6 +5,7 @@ ghost use Rattle.std.specs.List.{AllByRecursion, AllZip};
 ghost use Rattle.mw_core_waves.specs.Jobs.{HandIsMade, IsKept, IsMadeAt};
 
 use crate::job::WaveTask;
+use crate::pick::{All, Pick};
 use mw_model::NoMemory;
 use mw_step::task::TileResult;
 use std::alloc::{AllocError, Global};
@@ -35,12 +36,22 @@ fn make_at(alloc: Global, jobs: &[WaveTask], place: usize) -> Option<MadeTile>
     }
 }
 
-/// Makes tasks that nobody has begun, until none is left. Who finds no room for what he made makes no more.
-pub(crate) fn make_some(alloc: Global, jobs: &[WaveTask], begun: &AtomicUsize) -> Vec<MadeTile>
+/// Makes tasks that nobody has begun, until none is left, or none is wanted: then nobody begins one. Who finds no room for
+/// what he made makes no more.
+pub(crate) fn make_some<P: Pick>(
+    alloc: Global,
+    jobs: &[WaveTask],
+    begun: &AtomicUsize,
+    pick: &mut P,
+) -> Vec<MadeTile>
     ensures { AllByRecursion (IsMadeAt jobs.now) result.items }
 {
     let mut hand = Vec::new(alloc);
     'tasks: for _turn in 0..jobs.len() {
+        if !pick.is_wanted() {
+            begun.store(jobs.len(), Ordering::SeqCst);
+            return hand;
+        }
         let Some(made) = make_at(alloc, jobs, begun.fetch_add(1, Ordering::SeqCst)) else {
             return hand;
         };
@@ -67,7 +78,7 @@ pub(crate) fn make_by<T: Threads + Sync>(
         workers,
         &move |_worker: usize| -> Vec<MadeTile>
             ensures { AllByRecursion (IsMadeAt jobs.entry.now) result.items }
-        { make_some(alloc, jobs, begun) },
+        { make_some(alloc, jobs, begun, &mut All) },
     )
 }
 

@@ -91,6 +91,14 @@ fn hand_in(core: &mut Core, answer: Result<TileDone, TaskRefused>)
     }
 }
 
+/// Hands a task back that was not run.
+fn hand_back(core: &mut Core, work: Work)
+    ensures { (m : Machine) (old : CoreView) → Underway m old core.old (WaveTask.Waits work ∷ []) 1 → Underway m old core.new [] 1 }
+{
+    let refused = TaskRefused::new(work);
+    hand_in(core, Err(refused));
+}
+
 /// Hands all answers back, in the order in which their tasks were taken.
 fn hand_all(alloc: Global, core: &mut Core, jobs: Vec<WaveTask>)
     requires { AllByRecursion IsBoundedJob jobs.items }
@@ -139,11 +147,11 @@ fn own_part<P: Pick>(
     let done = mem::replace(beside, Vec::new(alloc));
     hand_all(alloc, core, done);
     *beside = take_wave(alloc, most, core, pick);
-    make_some(alloc, jobs, begun)
+    make_some(alloc, jobs, begun, pick)
 }
 
-/// Makes the tasks of a wave in as many threads as they are worth. The one who has the core does his own part first. Gives
-/// what the others made, and what he made himself.
+/// Makes the tasks of a wave in as many threads as they are worth, none beside this where they are not wanted. The one who
+/// has the core does his own part first. Gives what the others made, and what he made himself.
 fn make_beside<P: Pick, T: Threads + Sync>(
     crew: Crew<T>,
     jobs: &[WaveTask],
@@ -159,8 +167,12 @@ fn make_beside<P: Pick, T: Threads + Sync>(
 {
     let next = AtomicUsize::new(0);
     let (rt, alloc, begun) = (crew.rt, crew.alloc, &next);
-    let most = crew.wave(core.side());
-    let others = crew.others(jobs);
+    let most = crew.wave(core.least_side());
+    let others = if pick.is_wanted() {
+        crew.others(jobs)
+    } else {
+        0
+    };
     if others == 0 {
         let mine = own_part(alloc, most, jobs, begun, core, pick, beside);
         return (Ok(Vec::new(alloc)), mine);
@@ -193,7 +205,7 @@ fn turn<P: Pick, T: Threads + Sync>(
     ensures beside { AllByRecursion IsBoundedJob beside.new.items }
 {
     let (theirs, mine) = make_beside(crew, jobs.as_slice(), core, pick, beside);
-    answered(crew, theirs, mine, jobs)
+    answered(crew, pick.is_wanted(), theirs, mine, jobs)
 }
 
 /// Runs wave after wave, beginning with these tasks, until none is ready and all are handed back.
@@ -234,12 +246,17 @@ fn list<T>(crew: Crew<T>, side: u32, first: &Work, others: u64) -> Option<Vec<Wa
     }
 }
 
-/// Runs a task that was taken, and others beside it. Where there are none, or no memory for their list, it is run alone.
+/// Runs a task that was taken, and others beside it. Where there are none, or no memory for their list, it is run alone; where
+/// it is not wanted, it is refused.
 fn run_beside<P: Pick, T: Threads + Sync>(crew: Crew<T>, core: &mut Core, pick: &mut P, first: Work)
     requires { AllByRecursion IsBounded first.windows }
     ensures { (m : Machine) (old : CoreView) → Underway m old core.old (WaveTask.Waits first ∷ []) 1 → Underway m old core.new [] 1 }
 {
-    match list(crew, core.side(), &first, core.ready_count()) {
+    if !pick.is_wanted() {
+        hand_back(core, first);
+        return;
+    }
+    match list(crew, core.least_side(), &first, core.ready_count()) {
         Some(mut jobs) => {
             jobs.push_reserved(WaveTask::Waits(first));
             take_more(

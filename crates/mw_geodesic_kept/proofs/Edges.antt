@@ -3,10 +3,9 @@ use Rattle.std.proofs.Common.{◌≡◌, ℕ, ◌+◌, ◌-◌, ◌<◌, ◌≤�
 use Rattle.std.specs.Prelude.{◌⊎◌, ◌||◌, ◌==◌, if◌then◌else◌}
 use Rattle.std.proofs.lemmas.Bool.{cases_Bool, eq-eqb, eqb-true, true≢false}
 use Rattle.mw_model.specs.declared.offsets.Offset.{Offset}
-use Rattle.mw_model.specs.Pictures.{Picture, sample, IsPicture, IsSet}
+use Rattle.mw_model.specs.Pictures.{Picture, sample, IsSet}
 use Rattle.mw_model.specs.Flat.{complement}
-use Rattle.mw_model.proofs.ImagePlaces.{sample-redrawn, sample_bounded, drawn_same, length-rows}
-use Rattle.mw_model.proofs.ImageLaws.{drawn_picture}
+use Rattle.mw_model.proofs.ImagePlaces.{sample-redrawn, drawn_same, length-rows}
 use Rattle.mw_geodesic.specs.Neighbours.{IsPlace}
 use Rattle.mw_geodesic.specs.Geodesics.{reconstruction}
 use Rattle.mw_geodesic.specs.Reconstructions.{at_border, border_over, border_cleared, holes_filled}

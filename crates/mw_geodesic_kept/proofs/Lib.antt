@@ -7,4 +7,5 @@ mod Looking
 mod Marking
 mod Rebuilt
 mod Results
+mod ShownLarge
 mod Writing

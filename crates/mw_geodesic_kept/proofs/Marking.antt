@@ -1,8 +1,8 @@
 -- Numbers that are marked one after another.
-use Rattle.std.proofs.Common.{◌≡◌, ◌≢◌, ℕ, ◌+◌, ◌<◌, Bool, true, false, List, length, replicate, get_or, set, ap, sym, subst, arith, ◌∙◌, inl, inr}
-use Rattle.std.specs.Prelude.{nat_le}
+use Rattle.std.proofs.Common.{◌≡◌, ◌≢◌, ℕ, ◌+◌, ◌<◌, Bool, true, false, List, length, replicate, get_or, set, refl, ap, sym, subst, arith, ◌∙◌, inl, inr}
+use Rattle.std.specs.Prelude.{nat_le, if◌then◌else◌}
 use Rattle.std.proofs.lemmas.Bool.{cases_lt, cases_eq, false≢true}
-use Rattle.std.proofs.lemmas.List.{get_or-set_same, get_or-set_other}
+use Rattle.std.proofs.lemmas.List.{get_or-set_same, get_or-set_other, length-set}
 use Rattle.mw_model.proofs.mw_facts.Elements.{get_or-replicate_same}
 use Rattle.mw_geodesic_runs.specs.declared.runs.Run.{Run}
 use Rattle.mw_geodesic_runs.specs.Runs.{run_numbered}
@@ -51,6 +51,20 @@ marked_past Asked runs numbers marks n not was = record {
         absurd (not (subst (λ (t : ℕ). Asked (run_numbered runs t)) last asked))
   ];
 }
+
+-- the number of the next run is marked where that is asked for
+pub marked_next : (Asked : Run → Type 0) (runs : List Run) (numbers : List ℕ) (marks marks' : List Bool) (n m k : ℕ) (r : Run) (is_asked : Bool) → run_numbered runs n ≡ r → m ≡ n + 1 → k ≡ get_or numbers n 0 → k < length marks
+    → (is_asked ≡ true → Asked r) → (is_asked ≡ false → Asked r → ⊥) → marks' ≡ (if is_asked then set marks k true else marks) → AreMarked Asked runs numbers n marks → AreMarked Asked runs numbers m marks'
+marked_next Asked runs numbers marks marks' n m k r true read next number within asks spares is was =
+    subst (λ (t : ℕ). AreMarked Asked runs numbers t marks') (sym next) (marked_on Asked runs numbers marks marks' n k number within is (subst Asked (sym read) (asks refl)) was)
+marked_next Asked runs numbers marks marks' n m k r false read next number within asks spares is was =
+    subst (λ (t : ℕ). AreMarked Asked runs numbers t marks') (sym next)
+    (subst (λ (t : List Bool). AreMarked Asked runs numbers (n + 1) t) (sym is) (marked_past Asked runs numbers marks n (λ asked. spares refl (subst Asked read asked)) was))
+
+-- as many marks are left
+pub as_many_marks : (marks marks' : List Bool) (k : ℕ) (is_asked : Bool) → marks' ≡ (if is_asked then set marks k true else marks) → length marks' ≡ length marks
+as_many_marks marks marks' k true is = ap (λ (t : List Bool). length t) is ∙ length-set marks k true
+as_many_marks marks marks' k false is = ap (λ (t : List Bool). length t) is
 
 -- the same marks, where what is asked for is the same of each run
 pub marked_as : (Asked Asked' : Run → Type 0) (runs : List Run) (numbers : List ℕ) (n : ℕ) (marks : List Bool) → ((i : ℕ) → i < n → Asked (run_numbered runs i) → Asked' (run_numbered runs i))

@@ -173,6 +173,13 @@ written_on set old now new runs numbers marks wanted n across marked put was =
           put.outside x y (omega (arith, place.column)) (λ h. none n (omega arith) marked h) ∙ was.outside x y place (λ i lt mark h. none i (omega arith) mark h);
     }
 
+-- the same of the run as it was read
+pub written_next : (set old now new : Raster ℕ) (runs : List Run) (numbers : List ℕ) (marks : List Bool) (wanted : Bool) (n m : ℕ) (r : Run) → m ≡ n + 1 → run_numbered runs n ≡ r → ((i : ℕ) → i < n + 1 → (run_numbered runs i).end ≤ old.width)
+    → mark_of marks (get_or numbers n 0) ≡ wanted → RunPut set now new r → RunsWritten (set_of set) runs numbers marks wanted n (set_of old) (set_of now) → RunsWritten (set_of set) runs numbers marks wanted m (set_of old) (set_of new)
+written_next set old now new runs numbers marks wanted n m r next read across marked put was =
+    subst (λ (t : ℕ). RunsWritten (set_of set) runs numbers marks wanted t (set_of old) (set_of new)) (sym next)
+    (written_on set old now new runs numbers marks wanted n across marked (subst (λ (t : Run). RunPut set now new t) (sym read) put) was)
+
 pub written_past : (set old now : Picture) (runs : List Run) (numbers : List ℕ) (marks : List Bool) (wanted : Bool) (n : ℕ) → (mark_of marks (get_or numbers n 0) ≡ wanted → ⊥)
     → RunsWritten set runs numbers marks wanted n old now → RunsWritten set runs numbers marks wanted (n + 1) old now
 written_past set old now runs numbers marks wanted n other was = record {

@@ -7,7 +7,9 @@ use Rattle.mw_geodesic.specs.Geodesics.{reconstruction}
 use Rattle.mw_geodesic.specs.Reconstructions.{border_over, border_cleared}
 use Rattle.mw_geodesic.specs.Neighbours.{IsPlace}
 use Rattle.mw_geodesic_runs.specs.declared.runs.Run.{Run}
+use Rattle.mw_geodesic_runs.specs.declared.spans.Span.{Span}
 use Rattle.mw_geodesic_runs.specs.Runs.{run_numbered, HasPlace}
+use Rattle.mw_geodesic_labels.specs.Painting.{HeldRuns}
 
 -- the mark of a number; behind the end of the list there is none
 abbrev pub mark_of : List Bool → ℕ → Bool
@@ -20,6 +22,10 @@ pub record LieInFrame (width height bound : ℕ) (runs : List Run) (numbers : Li
   pub across : (i : ℕ) → i < length runs → (run_numbered runs i).end ≤ width
   pub down : (i : ℕ) → i < length runs → (run_numbered runs i).row < height
   pub bounded : (i : ℕ) → i < length runs → slice_index numbers i < bound
+
+-- the same of runs that are held row by row
+abbrev pub LieHeld : ℕ → ℕ → ℕ → List Span → List ℕ → List ℕ → Type 0
+LieHeld width height bound spans starts numbers = HeldRuns (λ runs. LieInFrame width height bound runs numbers) height spans starts numbers
 
 -- a pixel of the set stands in the run
 pub record HasPixelOf (f : Picture) (r : Run) : Type 0 where

@@ -11,7 +11,7 @@ use crate::flipping::flipped;
 use crate::keeping::kept;
 use crate::marks::marks_at_edge;
 use mw_geodesic::laws::duality;
-use mw_geodesic_runs::components_of;
+use mw_geodesic_runs::spans_of;
 use mw_model::NoMemory;
 use mw_pixel::{Bit, Plane};
 use std::alloc::Global;
@@ -27,11 +27,20 @@ fn by_border(
     requires few { set.now.height * set.now.width < 2 ^ 32 }
     ensures { IfOk result (λ r. set_of r ≡ touching_or_not (neighbours_of neighbours) touching (set_of set.now)) }
 {
-    let found = components_of(alloc, set.words(), neighbours)?;
-    let runs = found.runs.as_slice();
+    let found = spans_of(alloc, set.words(), neighbours)?;
+    let spans = found.spans.as_slice();
+    let starts = found.starts.as_slice();
     let numbers = found.numbers.as_slice();
-    let marks = marks_at_edge(alloc, runs, numbers, found.count, set.width(), set.height())?;
-    let part = kept(alloc, set, runs, numbers, &marks, touching)?;
+    let marks = marks_at_edge(
+        alloc,
+        spans,
+        starts,
+        numbers,
+        found.count,
+        set.width(),
+        set.height(),
+    )?;
+    let part = kept(alloc, set, spans, starts, numbers, &marks, touching)?;
     Ok(part)
 }
 

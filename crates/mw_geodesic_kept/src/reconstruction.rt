@@ -8,7 +8,7 @@ ghost use Rattle.mw_geodesic.specs.Neighbours.{neighbours_of};
 use crate::Neighbours;
 use crate::keeping::kept;
 use crate::marks::marks_met;
-use mw_geodesic_runs::components_of;
+use mw_geodesic_runs::spans_of;
 use mw_model::NoMemory;
 use mw_pixel::{Bit, Plane};
 use std::alloc::Global;
@@ -29,10 +29,11 @@ pub fn reconstruction_of_set(
     // for the samples of the marker
     let _marker = marker.words();
     let _size = marker.width();
-    let found = components_of(alloc, mask.words(), neighbours)?;
-    let runs = found.runs.as_slice();
+    let found = spans_of(alloc, mask.words(), neighbours)?;
+    let spans = found.spans.as_slice();
+    let starts = found.starts.as_slice();
     let numbers = found.numbers.as_slice();
-    let marks = marks_met(alloc, runs, numbers, found.count, marker)?;
-    let rebuilt = kept(alloc, mask, runs, numbers, &marks, true)?;
+    let marks = marks_met(alloc, spans, starts, numbers, found.count, marker)?;
+    let rebuilt = kept(alloc, mask, spans, starts, numbers, &marks, true)?;
     Ok(rebuilt)
 }

@@ -1,5 +1,5 @@
 -- Components and their first places, by labels.
-use Rattle.std.proofs.Common.{◌≡◌, ℕ, zero, suc, ◌+◌, ◌-◌, ◌*◌, ◌/◌, ◌%◌, ◌<◌, ◌≤◌, Bool, true, false, List, [], ◌∷◌, ◌++◌, length, get_or, map, take, cond, max, refl, ap, sym, arith, ◌∙◌, inl, inr, append-nil}
+use Rattle.std.proofs.Common.{◌≡◌, ℕ, zero, suc, ◌+◌, ◌-◌, ◌*◌, ◌/◌, ◌%◌, ◌<◌, ◌≤◌, Bool, true, false, List, [], ◌∷◌, ◌++◌, length, get_or, map, take, cond, refl, ap, sym, arith, ◌∙◌, inl, inr, append-nil}
 use Rattle.std.specs.Prelude.{◌↔◌, ◌&&◌, ◌==◌, count_by}
 use Rattle.std.specs.List.{filter, range_with_len}
 use Rattle.std.proofs.lemmas.Bool.{cases_lt, and_parts, and_from, false_from_ne_true, eqb-true, eqb-false, eq-eqb, ne_eqb}
@@ -11,8 +11,7 @@ use Rattle.std.proofs.lemmas.Nat.{mod_below, div_below, div-add-mod'}
 use Rattle.mw_model.specs.declared.offsets.Offset.{Offset}
 use Rattle.mw_model.specs.Pictures.{Picture, sample, IsSet}
 use Rattle.mw_model.specs.Flat.{greatest}
-use Rattle.mw_model.specs.Laws.{SameShape}
-use Rattle.mw_model.proofs.ImagePlaces.{sample_bounded, shape_trans}
+use Rattle.mw_model.proofs.ImagePlaces.{sample_bounded}
 use Rattle.mw_model.proofs.mw_facts.Numbers.{factor-positive}
 use Rattle.mw_model.proofs.mw_facts.Ranges.{range_with_len-more}
 use Rattle.mw_geodesic.specs.Neighbours.{IsPlace}
@@ -22,7 +21,7 @@ use Rattle.mw_geodesic.specs.Labels.{label_at, IsLabelling}
 use Rattle.mw_geodesic.proofs.Components.{in_component, leads_from}
 use Rattle.mw_geodesic.proofs.LargeComponents.{area_of_label, component_shape}
 use Rattle.mw_geodesic.proofs.Markings.{greatest_more}
-use Rattle.mw_geodesic.proofs.Reconstructed.{rebuilt_shape, rebuilt_size, rebuilt_within}
+use Rattle.mw_geodesic.proofs.Reconstructed.{rebuilt_size, rebuilt_within}
 use Rattle.mw_geodesic_labels.specs.Regions.{HasLabel}
 use Rattle.mw_geodesic_labels.proofs.Labellings.{at_most_greatest, before_greatest, one_of}
 use Rattle.mw_geodesic_labels.proofs.Shown.{below_kept}

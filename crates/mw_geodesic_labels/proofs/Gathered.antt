@@ -12,7 +12,8 @@ use Rattle.mw_geodesic_runs.specs.Runs.{run_numbered, RunsBefore}
 use Rattle.mw_geodesic_runs.specs.Components.{AreComponents}
 use Rattle.mw_geodesic_labels.specs.Gathering.{no_region, TellsRun, TellsMore, CanAdd, RunAdded, begun, added, area_of, HasNumberBefore, IsLeastOf, IsGreatestOf, IsGathered, AreGathered, AreWide}
 use Rattle.mw_geodesic_runs.proofs.Joinings.{frame_run}
-use Rattle.mw_geodesic_labels.proofs.Paintings.{begin_of, ends_before}
+use Rattle.mw_geodesic_labels.specs.Painting.{begin_of}
+use Rattle.mw_geodesic_labels.proofs.Paintings.{ends_before}
 
 -- ---- the areas
 

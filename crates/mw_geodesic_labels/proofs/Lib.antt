@@ -1,14 +1,16 @@
 -- what other crates may cite
 pub mod Gathered
+pub mod HeldSpans
+pub mod Labellings
+pub mod Paintings
 pub mod RegionLaws
 pub mod RunAreas
 pub mod Told
+pub mod Written
 -- the crate's own
 mod CountedLabels
 mod DefinedLabels
 mod FirstPlaces
-mod Labellings
-mod Paintings
+mod Overwritten
 mod Results
 mod Shown
-mod Written

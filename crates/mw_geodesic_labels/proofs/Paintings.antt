@@ -7,7 +7,7 @@ use Rattle.std.proofs.lemmas.List.{get_or-set_same, get_or-set_other, length-set
 use Rattle.mw_model.specs.Pictures.{Picture, sample}
 use Rattle.mw_geodesic_runs.specs.declared.runs.Run.{Run}
 use Rattle.mw_geodesic_runs.specs.Runs.{run_numbered, HasPlace, Precedes, RunsBefore}
-use Rattle.mw_geodesic_labels.specs.Painting.{painted, painted_runs, RunsFit}
+use Rattle.mw_geodesic_labels.specs.Painting.{painted, painted_runs, begin_of, stop_of, RunsFit}
 use Rattle.mw_geodesic_runs.proofs.Joinings.{IsFrameRun, frame_run}
 use Rattle.mw_geodesic_labels.proofs.Labellings.{ShowsNumbers}
 
@@ -40,12 +40,6 @@ painted_outside start (suc n) v xs k out =
     get_or-set_other (painted start n v xs) (start + n) k v 0 other ∙ painted_outside start n v xs k less
 
 -- ---- runs after one another
-
-abbrev pub begin_of : ℕ → Run → ℕ
-begin_of w r = r.row * w + r.first
-
-abbrev pub stop_of : ℕ → Run → ℕ
-stop_of w r = r.row * w + r.end
 
 pub runs_more : (w : ℕ) (runs : List Run) (numbers : List ℕ) (n m : ℕ) (xs : List ℕ) → m ≡ n + 1
     → painted_runs w runs numbers m xs ≡ painted (begin_of w (run_numbered runs n)) (stop_of w (run_numbered runs n) - begin_of w (run_numbered runs n)) (get_or numbers n 0) (painted_runs w runs numbers n xs)

@@ -1,17 +1,16 @@
 -- What is made of the components that were found.
-use Rattle.std.proofs.Common.{◌≡◌, ℕ, ◌*◌, ◌^◌, ◌<◌, ◌≤◌, List, length, refl, sym, subst, ap, arith, ◌∙◌}
+use Rattle.std.proofs.Common.{◌≡◌, ℕ, ◌*◌, ◌<◌, ◌≤◌, List, length, refl, sym, subst, ap, arith, ◌∙◌}
 use Rattle.mw_model.specs.Pictures.{Picture}
 use Rattle.mw_geodesic.specs.Labels.{IsLabelling}
 use Rattle.mw_model.specs.declared.offsets.Offset.{Offset}
 use Rattle.mw_geodesic_runs.specs.declared.runs.Run.{Run}
 use Rattle.mw_geodesic_runs.specs.Components.{AreComponents}
-use Rattle.mw_geodesic_labels.specs.Painting.{painted_runs, RunsFit}
+use Rattle.mw_geodesic_labels.specs.Painting.{painted_runs}
 use Rattle.mw_geodesic_labels.specs.declared.regions.Region.{Region}
 use Rattle.mw_geodesic_labels.specs.Regions.{AreRegionsOf, AreRegionsWithLabels}
-use Rattle.mw_geodesic_labels.specs.Gathering.{AreGathered, AreWide}
+use Rattle.mw_geodesic_labels.specs.Gathering.{AreGathered}
 use Rattle.mw_geodesic_labels.proofs.Labellings.{labelling}
-use Rattle.mw_geodesic_labels.proofs.Paintings.{blank, length-blank, blank_zero, runs_fit, shows_numbers}
-use Rattle.mw_geodesic_labels.proofs.Gathered.{are_wide}
+use Rattle.mw_geodesic_labels.proofs.Paintings.{blank, length-blank, blank_zero, shows_numbers}
 use Rattle.mw_geodesic_labels.proofs.Told.{are_regions, as_many}
 
 pub labels_by : (e : List Offset) (f : Picture) (runs runs' : List Run) (numbers numbers' : List ℕ) (count w : ℕ) (xs new labels : List ℕ) → AreComponents e f runs numbers count → w ≡ f.width → runs' ≡ runs → numbers' ≡ numbers
@@ -25,14 +24,6 @@ labels_by e f runs runs' numbers numbers' count w xs new labels are wide same sa
     ∙ ap (λ (t : List ℕ). painted_runs f.width runs t (length runs) xs) same_numbers
     ∙ ap (λ (t : List ℕ). painted_runs f.width runs numbers (length runs) t) none in
     labelling e f runs numbers labels count are (shows_numbers f runs numbers (blank n) labels are.cut (length-blank n) (blank_zero n) now)
-
-pub fit_by : (e : List Offset) (f : Picture) (runs runs' : List Run) (numbers : List ℕ) (count w size : ℕ) → AreComponents e f runs numbers count → w ≡ f.width → runs' ≡ runs → size ≡ f.height * f.width → RunsFit w size runs'
-fit_by e f runs runs' numbers count w size are wide same is =
-    subst (λ (t : List Run). RunsFit w size t) (sym same) (subst (λ (t : ℕ). RunsFit t size runs) (sym wide) (subst (λ (t : ℕ). RunsFit f.width t runs) (sym is) (runs_fit f runs are.cut)))
-
-pub wide_by : (e : List Offset) (f : Picture) (runs runs' : List Run) (numbers numbers' : List ℕ) (count : ℕ) → f.height * f.width < 2 ^ 32 → AreComponents e f runs numbers count → runs' ≡ runs → numbers' ≡ numbers → AreWide runs' numbers' count
-wide_by e f runs runs' numbers numbers' count few are same same_numbers =
-    subst (λ (t : List Run). AreWide t numbers' count) (sym same) (subst (λ (t : List ℕ). AreWide runs t count) (sym same_numbers) (are_wide e f runs numbers count few are))
 
 pub regions_by : (e : List Offset) (f : Picture) (runs runs' : List Run) (numbers numbers' : List ℕ) (count : ℕ) (regions : List Region) → AreComponents e f runs numbers count → runs' ≡ runs → numbers' ≡ numbers
     → AreGathered runs' numbers' (length runs') regions → AreRegionsOf e f regions

@@ -54,6 +54,12 @@ areas_more runs numbers areas areas' count i m n next number some most size is w
           omega arith
     ]
 
+-- the same by the run as it was read
+pub area_on : (runs : List Run) (numbers areas areas' : List ℕ) (count i m n : ℕ) (r : Run) → run_numbered runs i ≡ r → m ≡ i + 1 → n ≡ get_or numbers i 0 → 1 ≤ n → n ≤ count → count ≡ length areas
+    → areas' ≡ set areas (n - 1) (get_or areas (n - 1) 0 + (r.end - r.first)) → AreAreasOf runs numbers i count areas → AreAreasOf runs numbers m count areas'
+area_on runs numbers areas areas' count i m n r read next number some most size is was =
+    areas_more runs numbers areas areas' count i m n next number some most size (is ∙ ap (λ (t : Run). set areas (n - 1) (get_or areas (n - 1) 0 + (t.end - t.first))) (sym read)) was
+
 -- the area of the component of a place is that of the number of its run
 pub component_area : (e : List Offset) (f : Picture) (runs : List Run) (numbers : List ℕ) (count i x y : ℕ) → AreComponents e f runs numbers count → i < length runs → HasPlace (run_numbered runs i) x y
     → area (component e f x y) ≡ area_of runs numbers (get_or numbers i 0) (length runs)

@@ -12,13 +12,13 @@ use Rattle.mw_geodesic_runs.specs.declared.runs.Run.{Run}
 use Rattle.mw_geodesic_labels.specs.declared.regions.Region.{Region}
 use Rattle.mw_geodesic_runs.specs.Runs.{run_numbered, HasPlace, RunsBefore}
 use Rattle.mw_geodesic_runs.specs.Components.{AreComponents}
-use Rattle.mw_geodesic_labels.specs.Painting.{painted, painted_runs}
+use Rattle.mw_geodesic_labels.specs.Painting.{painted, painted_runs, begin_of, stop_of}
 use Rattle.mw_geodesic_labels.specs.Regions.{HasLabel, IsRegion, AreRegionsOf}
 use Rattle.mw_geodesic_labels.specs.Gathering.{no_region, area_of, HasNumberBefore, IsGathered, AreGathered}
 use Rattle.mw_geodesic_runs.proofs.Found.{held}
 use Rattle.mw_geodesic_runs.proofs.Joinings.{frame_run}
 use Rattle.mw_geodesic_labels.proofs.Labellings.{ShowsNumbers, in_set, earlier, labelling}
-use Rattle.mw_geodesic_labels.proofs.Paintings.{begin_of, stop_of, length-painted, length-painted_runs, painted_outside, unpainted, ends_before, shows_numbers, blank, length-blank, blank_zero}
+use Rattle.mw_geodesic_labels.proofs.Paintings.{length-painted, length-painted_runs, painted_outside, unpainted, ends_before, shows_numbers, blank, length-blank, blank_zero}
 use Rattle.mw_geodesic_labels.proofs.Gathered.{area_here, area_other}
 
 -- ---- how often a number is written

@@ -1,39 +1,12 @@
 -- An array that is written once from its first place on: what stands at the places that are done.
-use Rattle.std.proofs.Common.{◌≡◌, ◌≢◌, ℕ, ◌+◌, ◌-◌, ◌*◌, ◌<◌, ◌≤◌, List, length, get_or, set, replicate, refl, ap, sym, subst, arith, ◌∙◌, inl, inr}
-use Rattle.std.proofs.lemmas.Bool.{cases_lt, cases_eq}
-use Rattle.std.proofs.lemmas.List.{get_or-set_same, get_or-set_other, length-set, ext_get_or}
+use Rattle.std.proofs.Common.{◌≡◌, ℕ, ◌+◌, ◌-◌, ◌<◌, ◌≤◌, List, length, get_or, refl, ap, sym, subst, arith, ◌∙◌, inl, inr}
+use Rattle.std.proofs.lemmas.Bool.{cases_lt}
+use Rattle.std.proofs.lemmas.List.{ext_get_or}
 use Rattle.mw_geodesic_runs.specs.declared.runs.Run.{Run}
 use Rattle.mw_geodesic_runs.specs.Runs.{run_numbered}
-use Rattle.mw_geodesic_labels.specs.Painting.{painted, painted_runs, IsOverwritten, RunsFit}
-use Rattle.mw_geodesic_labels.proofs.Paintings.{begin_of, stop_of, blank, blank_zero, length-blank, runs_more, length-painted_runs, painted_inside, painted_outside, unpainted}
-
-pub written_none : (start end v : ℕ) (xs : List ℕ) → end ≤ start → IsOverwritten start end v xs xs
-written_none start end v xs none = record { size = refl; here = λ k from to. absurd (omega arith); before = λ k lt. refl }
-
-pub written_more : (start n m v : ℕ) (old xs : List ℕ) → start ≤ n → n < length xs → m ≡ n + 1 → IsOverwritten start n v old xs → IsOverwritten start m v old (set xs n v)
-written_more start n m v old xs low lt next was = record {
-  size = length-set xs n v ∙ was.size;
-  here = λ k from to. elim (cases_eq k n) [
-    | inl same ↦ ap (λ (t : ℕ). get_or (set xs n v) t 0) same ∙ get_or-set_same xs n v 0 lt
-    | inr other ↦ get_or-set_other xs n k v 0 other ∙ was.here k from (omega arith)
-  ];
-  before = λ k less. get_or-set_other xs n k v 0 (λ e. absurd (omega arith)) ∙ was.before k less;
-}
-
-pub written_on : (start mid end v : ℕ) (old xs new : List ℕ) → start ≤ mid → IsOverwritten start mid v old xs → IsOverwritten mid end v xs new → IsOverwritten start end v old new
-written_on start mid end v old xs new low first second = record {
-  size = second.size ∙ first.size;
-  here = λ k from to. elim (cases_lt k mid) [
-    | inl less ↦ second.before k less ∙ first.here k from less
-    | inr past ↦ second.here k past to
-  ];
-  before = λ k less. second.before k (omega arith) ∙ first.before k less;
-}
-
-pub written_less : (start mid end v : ℕ) (old xs : List ℕ) → end ≤ mid → IsOverwritten start mid v old xs → IsOverwritten start end v old xs
-written_less start mid end v old xs low was = record { size = was.size; here = λ k from to. was.here k from (omega arith); before = was.before }
-
--- ---- runs after one another
+use Rattle.mw_geodesic_labels.specs.Overwriting.{IsOverwritten}
+use Rattle.mw_geodesic_labels.specs.Painting.{painted, painted_runs, begin_of, stop_of, RunsFit}
+use Rattle.mw_geodesic_labels.proofs.Paintings.{blank, blank_zero, length-blank, runs_more, length-painted_runs, painted_inside, painted_outside, unpainted}
 
 -- the places before this one are as the first i runs have them, which all end before it, and the others begin behind it
 pub record WrittenUpTo (w : ℕ) (runs : List Run) (numbers : List ℕ) (i at size : ℕ) (labels : List ℕ) : Type 0 where
@@ -80,14 +53,14 @@ writing_on w runs numbers i m at first end size labels mid new fits lt next is_f
       ];
       ahead = λ j from less. let apart = fits.apart i j (omega arith) less in omega arith;
       done = λ k less. elim (cases_lt k first) [
-        | inr from ↦ ones.here k from less ∙ sym (more k ∙ painted_inside (begin_of w r) n (get_or numbers i 0) xs k (omega arith) (omega arith) (omega arith))
+        | inr from ↦ ones.here k 0 from less ∙ sym (more k ∙ painted_inside (begin_of w r) n (get_or numbers i 0) xs k (omega arith) (omega arith) (omega arith))
         | inl before ↦
             let same : get_or (painted_runs w runs numbers m (blank size)) k 0 ≡ get_or xs k 0 = more k ∙ painted_outside (begin_of w r) n (get_or numbers i 0) xs k (inl (omega arith)) in
             let is : get_or mid k 0 ≡ get_or xs k 0 = elim (cases_lt k at) [
-              | inl done ↦ zeros.before k done ∙ was.done k done
-              | inr left ↦ zeros.here k left before ∙ sym (gap w runs numbers i at size k (omega arith) fits was.past left)
+              | inl done ↦ zeros.before k 0 done ∙ was.done k done
+              | inr left ↦ zeros.here k 0 left before ∙ sym (gap w runs numbers i at size k (omega arith) fits was.past left)
             ] in
-            ones.before k before ∙ is ∙ sym same
+            ones.before k 0 before ∙ is ∙ sym same
       ];
     }
 
@@ -98,8 +71,8 @@ written_whole w runs numbers at size labels new fits zeros was =
     let size_is : length new ≡ size = zeros.size ∙ was.as_many in
     let same : length new ≡ length whole = size_is ∙ sym (length-painted_runs w runs numbers (length runs) (blank size) ∙ length-blank size) in
     ext_get_or 0 new whole same (λ k lt. elim (cases_lt k at) [
-      | inl done ↦ zeros.before k done ∙ was.done k done
-      | inr left ↦ zeros.here k left (omega arith) ∙ sym (gap w runs numbers (length runs) at size k (omega arith) fits was.past left)
+      | inl done ↦ zeros.before k 0 done ∙ was.done k done
+      | inr left ↦ zeros.here k 0 left (omega arith) ∙ sym (gap w runs numbers (length runs) at size k (omega arith) fits was.past left)
     ])
 
 pub writing_ended : (w : ℕ) (runs : List Run) (numbers : List ℕ) (i at end size : ℕ) (labels new : List ℕ) → RunsFit w size runs → i ≡ length runs → end ≡ size → IsOverwritten at end 0 labels new → WrittenUpTo w runs numbers i at size labels

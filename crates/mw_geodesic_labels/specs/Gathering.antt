@@ -98,3 +98,8 @@ pub record AreWide (runs : List Run) (numbers : List ℕ) (count : ℕ) : Type 0
   pub some : (i : ℕ) → i < length runs → 1 ≤ slice_index numbers i
   pub steps : (i : ℕ) → i < length runs → 2 ≤ slice_index numbers i → (k : ℕ) → k + 1 ≡ slice_index numbers i → StandsBefore numbers i k
   pub fits : (n i : ℕ) → i < length runs → area_of runs numbers n i + ((run_numbered runs i).end - (run_numbered runs i).first) < 2 ^ 32
+
+-- the same of runs whose numbers are up to the count
+pub record AreCounted (runs : List Run) (numbers : List ℕ) (count : ℕ) : Type 0 where
+  pub wide : AreWide runs numbers count
+  pub most : (i : ℕ) → i < length runs → slice_index numbers i ≤ count

@@ -1,3 +1,4 @@
+pub mod Overwriting
 pub mod Painting
 pub mod Regions
 pub mod Gathering

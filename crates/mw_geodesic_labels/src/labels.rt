@@ -6,8 +6,8 @@ ghost use Rattle.mw_geodesic.specs.Labels.{IsLabelling};
 ghost use Rattle.mw_geodesic.specs.Neighbours.{neighbours_of};
 
 use crate::Neighbours;
-use crate::painting::write_runs;
-use mw_geodesic_runs::components_of;
+use crate::painting::write_spans;
+use mw_geodesic_runs::spans_of;
 use mw_model::NoMemory;
 use mw_pixel::{Bit, Plane};
 use std::alloc::Global;
@@ -58,7 +58,12 @@ pub fn write_labels(
     ensures made { IfOk result (λ count. IsLabelling (neighbours_of neighbours) (set_of set.now) count out.new) }
     ensures kept { IfErr result (λ _. out.new ≡ out.old) }
 {
-    let found = components_of(alloc, set.words(), neighbours)?;
-    write_runs(out, set.width(), &found.runs, &found.numbers);
+    let width = set.width();
+    let height = set.height();
+    let found = spans_of(alloc, set.words(), neighbours)?;
+    let spans = found.spans.as_slice();
+    let starts = found.starts.as_slice();
+    let numbers = found.numbers.as_slice();
+    write_spans(out, width, height, spans, starts, numbers);
     Ok(found.count)
 }

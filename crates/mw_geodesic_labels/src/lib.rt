@@ -7,13 +7,15 @@
 //! let regions = regions_of(alloc, &set, Neighbours::Eight)?;      // regions[k] tells of the places with label k + 1
 //! ```
 //!
-//! Beside the result there are the runs and their numbers. Nothing else is asked for.
+//! Beside the result there are the runs as spans, their numbers, and two rows of runs while they are searched. Nothing else is
+//! asked for.
 #![tactic(auto)]
 
 mod areas;
 mod labels;
 pub mod laws;
 mod measured;
+mod overwriting;
 mod painting;
 mod regions;
 
@@ -21,4 +23,5 @@ pub use areas::areas_of;
 pub use labels::{Labelled, labels_of, write_labels};
 pub use measured::label_and_measure;
 pub use mw_geodesic_runs::{Neighbours, NoMemory};
-pub use regions::{Region, gather, regions_of};
+pub use overwriting::overwrite;
+pub use regions::{Region, regions_of};

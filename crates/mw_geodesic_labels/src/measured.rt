@@ -5,10 +5,10 @@ ghost use Rattle.mw_pixel.specs.Images.{set_of};
 ghost use Rattle.mw_geodesic.specs.Neighbours.{neighbours_of};
 ghost use Rattle.mw_geodesic_labels.specs.Regions.{AreRegionsWithLabels};
 
-use crate::painting::write_runs;
-use crate::regions::gather;
+use crate::painting::write_spans;
+use crate::regions::gather_spans;
 use crate::{Neighbours, Region};
-use mw_geodesic_runs::components_of;
+use mw_geodesic_runs::spans_of;
 use mw_model::NoMemory;
 use mw_pixel::{Bit, Plane};
 use std::alloc::Global;
@@ -28,10 +28,15 @@ pub fn label_and_measure(
     ensures made { IfOk result (λ r. AreRegionsWithLabels (neighbours_of neighbours) (set_of set.now) most out.old out.new r.items) }
     ensures kept { IfErr result (λ _. out.new ≡ out.old) }
 {
-    let found = components_of(alloc, set.words(), neighbours)?;
-    let regions = gather(alloc, &found.runs, &found.numbers, found.count)?;
+    let width = set.width();
+    let height = set.height();
+    let found = spans_of(alloc, set.words(), neighbours)?;
+    let spans = found.spans.as_slice();
+    let starts = found.starts.as_slice();
+    let numbers = found.numbers.as_slice();
+    let regions = gather_spans(alloc, height, spans, starts, numbers, found.count)?;
     if regions.len() <= most {
-        write_runs(out, set.width(), &found.runs, &found.numbers);
+        write_spans(out, width, height, spans, starts, numbers);
     }
     Ok(regions)
 }

@@ -4,11 +4,12 @@ ghost use Rattle.std.specs.Prelude.{◌≡◌, ℕ, ◌+◌, ◌-◌, ◌*◌, �
 ghost use Rattle.mw_pixel.specs.Images.{set_of};
 ghost use Rattle.mw_geodesic.specs.Neighbours.{neighbours_of};
 ghost use Rattle.mw_geodesic_runs.specs.Runs.{run_numbered};
+ghost use Rattle.mw_geodesic_labels.specs.Painting.{HeldRuns};
 ghost use Rattle.mw_geodesic_labels.specs.Regions.{AreRegionsOf};
 ghost use Rattle.mw_geodesic_labels.specs.Gathering.{TellsRun, TellsMore, AreGathered, RunAdded, CanAdd, AreWide};
 
 use crate::Neighbours;
-use mw_geodesic_runs::{Run, components_of};
+use mw_geodesic_runs::{Run, Span, spans_of};
 use mw_model::NoMemory;
 use mw_pixel::{Bit, Plane};
 use std::alloc::Global;
@@ -73,19 +74,28 @@ fn add_run(regions: &mut Vec<Region>, run: Run, number: u32) -> Result<(), NoMem
     Ok(())
 }
 
-/// What is told of each component, by its runs.
-pub fn gather(
+/// What is told of each component, by its runs, which are held row by row.
+pub(crate) fn gather_spans(
     alloc: Global,
-    runs: &[Run],
+    height: u32,
+    spans: &[Span],
+    starts: &[u32],
     numbers: &[u32],
     count: u32,
 ) -> Result<Vec<Region>, NoMemory>
-    requires { AreWide runs.now numbers.now count }
-    ensures { IfOk result (λ r. AreGathered runs.now numbers.now (length runs.now) r.items) }
+    requires { HeldRuns (λ runs. AreWide runs numbers.now count) height spans.now starts.now numbers.now }
+    ensures { IfOk result (λ r. (held : HeldRuns (λ runs. AreWide runs numbers.now count) height spans.now starts.now numbers.now) → AreGathered held.runs numbers.now (length held.runs) r.items) }
 {
     let mut regions = Vec::with_capacity(alloc, count as usize)?;
-    for i in 0..runs.len() {
-        add_run(&mut regions, runs[i], numbers[i])?;
+    for y in 0..height as usize {
+        for k in starts[y] as usize..starts[y + 1] as usize {
+            let run = Run {
+                row: y as u32,
+                first: spans[k].first,
+                end: spans[k].end,
+            };
+            add_run(&mut regions, run, numbers[k])?;
+        }
     }
     Ok(regions)
 }
@@ -100,7 +110,11 @@ pub fn regions_of(
     requires few { set.now.height * set.now.width < 2 ^ 32 }
     ensures { IfOk result (λ r. AreRegionsOf (neighbours_of neighbours) (set_of set.now) r.items) }
 {
-    let found = components_of(alloc, set.words(), neighbours)?;
-    let regions = gather(alloc, &found.runs, &found.numbers, found.count)?;
+    let height = set.height();
+    let found = spans_of(alloc, set.words(), neighbours)?;
+    let spans = found.spans.as_slice();
+    let starts = found.starts.as_slice();
+    let numbers = found.numbers.as_slice();
+    let regions = gather_spans(alloc, height, spans, starts, numbers, found.count)?;
     Ok(regions)
 }

@@ -1,8 +1,9 @@
 -- Runs that are cut, row by row.
-use Rattle.std.proofs.Common.{◌≡◌, ℕ, ◌+◌, ◌-◌, ◌*◌, ◌<◌, ◌≤◌, ◌⊎◌, min, List, [], ◌∷◌, ◌++◌, length, refl, ap, sym, subst, arith, ◌∙◌, inl, inr}
+use Rattle.std.proofs.Common.{◌≡◌, ℕ, zero, suc, ◌+◌, ◌-◌, ◌*◌, ◌<◌, ◌≤◌, ◌⊎◌, min, List, [], ◌∷◌, ◌++◌, length, refl, ap, sym, subst, arith, ◌∙◌, inl, inr}
 use Rattle.std.proofs.lemmas.Bool.{cases_lt}
 use Rattle.std.proofs.lemmas.List.{get_or_push, get_or_append_left, length_push}
-use Rattle.mw_model.specs.Pictures.{Picture, sample}
+use Rattle.mw_model.specs.Pictures.{Picture, sample, IsSet}
+use Rattle.mw_model.proofs.ImagePlaces.{sample_bounded}
 use Rattle.mw_pixel.specs.mw_pixel_words.Packed.{bit_of}
 use Rattle.mw_geodesic_runs.specs.declared.runs.Run.{Run}
 use Rattle.mw_geodesic_runs.specs.Runs.{no_run, run_numbered, HasPlace, IsRunOfSet, Precedes, InSomeRun, EndsBefore, tally, left_of, begin_at, begun, run_count, RunsBefore}
@@ -16,12 +17,12 @@ pub record HoldRow (f : Picture) (y : ℕ) (words : List ℕ) : Type 0 where
   pub clean : (x : ℕ) → f.width ≤ x → bit_of words x ≡ 0
   pub size : f.width ≤ 64 * length words
 
--- the runs before a column at which the next one begins, or behind the row
-pub record Cutting (f : Picture) (words : List ℕ) (x y : ℕ) (runs : List Run) : Type 0 where
-  pub before : RunsBefore f x y runs
+-- a column at which a run begins, or the end of the row; before it as many begin as n is more than m
+pub record InRow (f : Picture) (words : List ℕ) (x y m n : ℕ) : Type 0 where
   pub begins : x < 64 * length words → bit_of words x ≡ 1
   pub left : x < 64 * length words → left_of (bit_of words) x ≡ 0
   pub within : x ≤ 64 * length words
+  pub count : n ≡ m + begun f y (min x f.width)
 
 pub runs_none : (f : Picture) → RunsBefore f 0 0 []
 runs_none f = record {
@@ -35,6 +36,29 @@ runs_none f = record {
       let is = ap (begun f 0) none in
       omega arith;
 }
+
+begun_skipped : (f : Picture) (words : List ℕ) (x x' y : ℕ) → HoldRow f y words → x ≤ x' → ((u : ℕ) → x ≤ u → u < x' → bit_of words u ≡ 0) → begun f y (min x' f.width) ≡ begun f y (min x f.width)
+begun_skipped f words x x' y row le none =
+    tally_none (begin_at (λ u. sample f u y)) (min x f.width) (min x' f.width) (omega arith)
+    (λ i from to.
+    let bit = row.samples i (omega arith) in
+    let zero = none i (omega arith) (omega arith) in
+    omega arith)
+
+begun_pushed : (f : Picture) (x end y : ℕ) → x < f.width → x < end → end ≤ f.width → ((u : ℕ) → x ≤ u → u < end → sample f u y ≡ 1) → left_of (λ u. sample f u y) x ≡ 0 → begun f y (min end f.width) ≡ begun f y (min x f.width) + 1
+begun_pushed f x end y inside some within ones left =
+    let before : min x f.width ≡ x = omega arith in
+    let after : min end f.width ≡ end = omega arith in
+    let old = ap (begun f y) before in
+    let new = ap (begun f y) after in
+    let one = ones x (omega arith) some in
+    let more = tally_one (begin_at (λ u. sample f u y)) x end some (omega arith)
+    (λ i from to.
+    let here = ones i (omega arith) to in
+    let there = ones (i - 1) (omega arith) (omega arith) in
+    let is = left_is (λ u. sample f u y) i (i - 1) (omega arith) in
+    omega arith) in
+    omega arith
 
 -- columns without pixels are passed
 skipped : (f : Picture) (words : List ℕ) (x x' y : ℕ) (runs : List Run) → HoldRow f y words → x ≤ x' → ((u : ℕ) → x ≤ u → u < x' → bit_of words u ≡ 0) → RunsBefore f x y runs → RunsBefore f x' y runs
@@ -57,23 +81,23 @@ skipped f words x x' y runs row le none was = record {
     ]
   ];
   few = let few = was.few in omega arith;
-  count =
-      let same = tally_none (begin_at (λ u. sample f u y)) (min x f.width) (min x' f.width) (omega arith) (λ i from to.
-      let bit = row.samples i (omega arith) in
-      let zero = none i (omega arith) (omega arith) in
-      omega arith) in
-      let count = was.count in
-      omega arith;
+  count = let same = begun_skipped f words x x' y row le none in let count = was.count in omega arith;
 }
 
-pub cutting_begins : (f : Picture) (words : List ℕ) (x y : ℕ) (runs : List Run) → HoldRow f y words → x ≤ 64 * length words → ((u : ℕ) → 0 ≤ u → u < x → bit_of words u ≡ 0) → (x < 64 * length words → bit_of words x ≡ 1)
-    → RunsBefore f 0 y runs → Cutting f words x y runs
-cutting_begins f words x y runs row within none begins was = record {
-  before = skipped f words 0 x y runs row (omega arith) none was;
+pub row_begins : (f : Picture) (words : List ℕ) (x y m : ℕ) → HoldRow f y words → x ≤ 64 * length words → ((u : ℕ) → 0 ≤ u → u < x → bit_of words u ≡ 0) → (x < 64 * length words → bit_of words x ≡ 1) → InRow f words x y m m
+row_begins f words x y m row within none begins = record {
   begins = begins;
   left = λ lt. left_none (bit_of words) x (λ u less. none u (omega arith) less);
   within = within;
+  count =
+      let same = begun_skipped f words 0 x y row (omega arith) none in
+      let zero : min 0 f.width ≡ 0 = omega arith in
+      let is = ap (begun f y) zero in
+      omega arith;
 }
+
+pub cutting_begins : (f : Picture) (words : List ℕ) (x y : ℕ) (runs : List Run) → HoldRow f y words → ((u : ℕ) → 0 ≤ u → u < x → bit_of words u ≡ 0) → RunsBefore f 0 y runs → RunsBefore f x y runs
+cutting_begins f words x y runs row none was = skipped f words 0 x y runs row (omega arith) none was
 
 -- where the next run ends
 pub record NextRun (f : Picture) (words : List ℕ) (x end : ℕ) : Type 0 where
@@ -187,18 +211,7 @@ pushed f x end y runs r row first last inside some within run one left was =
         ]
       ];
       few = let few = was.few in omega arith;
-      count =
-          let before : min x f.width ≡ x = omega arith in
-          let after : min end f.width ≡ end = omega arith in
-          let old = ap (begun f y) before in
-          let new = ap (begun f y) after in
-          let more = tally_one (begin_at (λ u. sample f u y)) x end some (omega arith) (λ i from to.
-          let here = ones i (omega arith) to in
-          let there = ones (i - 1) (omega arith) (omega arith) in
-          let is = left_is (λ u. sample f u y) i (i - 1) (omega arith) in
-          omega arith) in
-          let count = was.count in
-          omega arith;
+      count = let more = begun_pushed f x end y inside some within ones left in let count = was.count in omega arith;
     }
   where
     kept : (u v : ℕ) → InSomeRun runs u v → InSomeRun (runs ++ r ∷ []) u v
@@ -206,59 +219,93 @@ pushed f x end y runs r row first last inside some within run one left was =
         let lt = held.within in
         record { at = held.at; within = omega (arith, length_push runs r); holds = subst (λ (t : Run). HasPlace t u v) (sym (run_before runs r held.at lt)) held.holds }
 
-cutting_on : (f : Picture) (words : List ℕ) (x end next y : ℕ) (runs : List Run) (r : Run) → HoldRow f y words → r.row ≡ y → r.first ≡ x → r.end ≡ end → Cutting f words x y runs → x < 64 * length words → x ≤ end
-    → end ≤ 64 * length words → ((u : ℕ) → x ≤ u → u < end → bit_of words u ≡ 1) → (end < 64 * length words → bit_of words end ≡ 0)
-    → end ≤ next → next ≤ 64 * length words → ((u : ℕ) → end ≤ u → u < next → bit_of words u ≡ 0) → (next < 64 * length words → bit_of words next ≡ 1) → Cutting f words next y (runs ++ r ∷ [])
-cutting_on f words x end next y runs r row at first last was inside from within ones stops le most zeros begins =
-    let is = next_run f words x end y row (was.begins inside) inside from within ones stops in
-    let is_first = is.first in
-    let is_some = is.some in
-    let is_within = is.within in
+-- what comes of two changes, the end of a run and the begin of the next one
+record Passes (f : Picture) (words : List ℕ) (x end next y : ℕ) : Type 0 where
+  run : NextRun f words x end
+  inside : (u : ℕ) → x ≤ u → u < end → bit_of words u ≡ 1
+  stops : end < 64 * length words → bit_of words end ≡ 0
+  zeros : (u : ℕ) → end ≤ u → u < next → bit_of words u ≡ 0
+  begins : next < 64 * length words → bit_of words next ≡ 1
+  from : end ≤ next
+  within : next ≤ 64 * length words
+  one : sample f x y ≡ 1
+  left : left_of (λ u. sample f u y) x ≡ 0
+  ones : (u : ℕ) → x ≤ u → u < end → sample f u y ≡ 1
+
+passes : (f : Picture) (words : List ℕ) (x end next y m n : ℕ) → HoldRow f y words → InRow f words x y m n → x < 64 * length words → IsNextChange words x end → IsNextChange words end next → Passes f words x end next y
+passes f words x end next y m n row was inside ends begins =
+    let is_one = was.begins inside in
+    let ones = stretch words x end 1 is_one ends in
+    let zeros = λ (lt : end < 64 * length words). stretch words end next 0 (ones.other lt) begins in
+    let most = begins.within in
+    let from = begins.from in
+    let run = next_run f words x end y row is_one inside ends.from ends.within ones.same ones.other in
+    let first = run.first in
+    let run_within = run.within in
+    record {
+      run = run;
+      inside = ones.same;
+      stops = ones.other;
+      zeros = λ u low less. (zeros (omega arith)).same u low less;
+      begins = λ lt. (zeros (omega arith)).other lt;
+      from = from;
+      within = most;
+      one = sym (row.samples x first) ∙ is_one;
+      left = row_left f words x y row first (was.left inside);
+      ones = λ u low less. sym (row.samples u (omega arith)) ∙ ones.same u low less;
+    }
+
+pub row_on : (f : Picture) (words : List ℕ) (x end next y m n : ℕ) → HoldRow f y words → InRow f words x y m n → x < 64 * length words → IsNextChange words x end → IsNextChange words end next → InRow f words next y m (n + 1)
+row_on f words x end next y m n row was inside ends begins =
+    let p = passes f words x end next y m n row was inside ends begins in
+    let same = begun_skipped f words end next y row p.from p.zeros in
+    let more = begun_pushed f x end y p.run.first p.run.some p.run.within p.ones p.left in
+    let count = was.count in
+    record {
+      begins = p.begins;
+      left = λ lt. left_after (bit_of words) end next (after p lt) p.zeros;
+      within = p.within;
+      count = omega arith;
+    }
+  where
+    after : Passes f words x end next y → next < 64 * length words → end < next
+    after p lt =
+        let from = p.from in
+        elim (cases_lt end next) [
+          | inl less ↦ less
+          | inr back ↦
+              let same : next ≡ end = omega arith in
+              let one = p.begins lt in
+              let none = p.stops (omega arith) in
+              let here : bit_of words next ≡ 0 = ap (bit_of words) same ∙ none in
+              absurd (omega arith)
+        ]
+
+-- the next run by the two changes that come next
+pub cutting_by : (f : Picture) (words : List ℕ) (x end next y m n : ℕ) (runs : List Run) (r : Run) → HoldRow f y words → r.row ≡ y → r.first ≡ x → r.end ≡ end → InRow f words x y m n → x < 64 * length words
+    → IsNextChange words x end → IsNextChange words end next → RunsBefore f x y runs → RunsBefore f next y (runs ++ r ∷ [])
+cutting_by f words x end next y m n runs r row at first last was inside ends begins before =
+    let p = passes f words x end next y m n row was inside ends begins in
+    let is_first = p.run.first in
+    let is_some = p.run.some in
+    let is_within = p.run.within in
     let size = row.size in
     let run : IsRunOfSet f r = record {
       some = omega arith;
       within = omega arith;
-      inside = λ u low high. ap (λ (t : ℕ). sample f u t) at ∙ sym (row.samples u (omega arith)) ∙ ones u (omega arith) (omega arith);
-      stops = λ lt. ap (λ (t : ℕ). sample f t r.row) last ∙ ap (λ (t : ℕ). sample f end t) at ∙ sym (row.samples end (omega arith)) ∙ stops (omega arith);
+      inside = λ u low high. ap (λ (t : ℕ). sample f u t) at ∙ p.ones u (omega arith) (omega arith);
+      stops = λ lt. ap (λ (t : ℕ). sample f t r.row) last ∙ ap (λ (t : ℕ). sample f end t) at ∙ sym (row.samples end (omega arith)) ∙ p.stops (omega arith);
     } in
-    let one : sample f x y ≡ 1 = sym (row.samples x is_first) ∙ was.begins inside in
-    let left = row_left f words x y row is_first (was.left inside) in
-    record {
-      before = skipped f words end next y (runs ++ r ∷ []) row le zeros (pushed f x end y runs r at first last is_first is_some is_within run one left was.before);
-      begins = begins;
-      left = λ lt. left_after (bit_of words) end next (after lt) zeros;
-      within = most;
-    }
-  where
-    after : next < 64 * length words → end < next
-    after lt = elim (cases_lt end next) [
-      | inl less ↦ less
-      | inr back ↦
-          let same : next ≡ end = omega arith in
-          let one = begins lt in
-          let none = stops (omega arith) in
-          let here : bit_of words next ≡ 0 = ap (bit_of words) same ∙ none in
-          absurd (omega arith)
-    ]
+    skipped f words end next y (runs ++ r ∷ []) row p.from p.zeros (pushed f x end y runs r at first last is_first is_some is_within run p.one p.left before)
 
--- the next run by the two changes that come next
-pub cutting_by : (f : Picture) (words : List ℕ) (x end next y : ℕ) (runs : List Run) (r : Run) → HoldRow f y words → r.row ≡ y → r.first ≡ x → r.end ≡ end → Cutting f words x y runs → x < 64 * length words
-    → IsNextChange words x end → IsNextChange words end next → Cutting f words next y (runs ++ r ∷ [])
-cutting_by f words x end next y runs r row at first last was inside ends begins =
-    let ones = stretch words x end 1 (was.begins inside) ends in
-    let most = begins.within in
-    cutting_on f words x end next y runs r row at first last was inside ends.from ends.within ones.same ones.other begins.from begins.within
-    (λ u from to. (stretch words end next 0 (ones.other (omega arith)) begins).same u from to)
-    (λ lt. let from = begins.from in (stretch words end next 0 (ones.other (omega arith)) begins).other lt)
-
-pub end_in_row : (f : Picture) (words : List ℕ) (x end y : ℕ) (runs : List Run) → HoldRow f y words → Cutting f words x y runs → x < 64 * length words → IsNextChange words x end → end ≤ f.width
-end_in_row f words x end y runs row was inside ends =
+pub end_in_row : (f : Picture) (words : List ℕ) (x end y m n : ℕ) → HoldRow f y words → InRow f words x y m n → x < 64 * length words → IsNextChange words x end → end ≤ f.width
+end_in_row f words x end y m n row was inside ends =
     let ones = stretch words x end 1 (was.begins inside) ends in
     (next_run f words x end y row (was.begins inside) inside ends.from ends.within ones.same ones.other).within
 
 -- there is room for the run that begins
-pub room_left : (f : Picture) (words : List ℕ) (x y : ℕ) (runs : List Run) → HoldRow f y words → x < 64 * length words → y < f.height → Cutting f words x y runs → length runs < run_count f
-room_left f words x y runs row inside high was =
+pub room_left : (f : Picture) (words : List ℕ) (x y m n : ℕ) → HoldRow f y words → x < 64 * length words → InRow f words x y m n → n < m + begun f y f.width
+room_left f words x y m n row inside was =
     let begins = was.begins inside in
     let first : x < f.width = elim (cases_lt x f.width) [
       | inl less ↦ less
@@ -267,12 +314,29 @@ room_left f words x y runs row inside high was =
     let here = row.samples x first in
     let left = row_left f words x y row first (was.left inside) in
     let at : min x f.width ≡ x = omega arith in
-    let count = was.before.count in
+    let count = was.count in
     let is = ap (begun f y) at in
     let next = next_tally (begin_at (λ u. sample f u y)) x in
     let whole = tally_more (begin_at (λ u. sample f u y)) (x + 1) f.width (omega arith) in
+    omega arith
+
+-- there is room for the runs of a row behind those of the rows above
+pub row_fits : (f : Picture) (y : ℕ) (runs : List Run) → y < f.height → RunsBefore f 0 y runs → length runs + begun f y f.width ≤ run_count f
+row_fits f y runs high was =
+    let none : min 0 f.width ≡ 0 = omega arith in
+    let is = ap (begun f y) none in
+    let count = was.count in
     let next_row = next_tally (λ v. begun f v f.width) y in
     let rows = tally_more (λ v. begun f v f.width) (y + 1) f.height (omega arith) in
+    omega arith
+
+-- no more runs begin than there are columns
+pub begun_most : (f : Picture) (y x : ℕ) → IsSet f → y < f.height → x ≤ f.width → begun f y x ≤ x
+begun_most f y zero is_set high le = omega arith
+begun_most f y (suc x) is_set high le =
+    let rest = begun_most f y x is_set high (omega arith) in
+    let top = sample_bounded f is_set.picture x y (omega arith) high in
+    let most = is_set.maxval in
     omega arith
 
 -- the runs of all rows

@@ -9,10 +9,13 @@ use Rattle.mw_geodesic.specs.Neighbours.{IsPlace, neighbours_of}
 use Rattle.mw_geodesic.specs.declared.neighbours.Neighbours.{Neighbours}
 use Rattle.mw_geodesic_runs.specs.declared.runs.Run.{Run}
 use Rattle.mw_geodesic_runs.specs.Runs.{InSomeRun, RunsBefore}
+use Rattle.mw_geodesic_runs.specs.declared.spans.Span.{Span}
+use Rattle.mw_geodesic_runs.specs.Rows.{AreHeldAbove}
 use Rattle.mw_geodesic_runs.specs.Forests.{NumbersClasses}
 use Rattle.mw_geodesic_runs.specs.Touching.{columns_reached, Agree, IsForestOf, AreNumbered}
-use Rattle.mw_geodesic_runs.specs.Components.{AreComponents}
+use Rattle.mw_geodesic_runs.specs.Components.{AreComponents, AreRunSpans}
 use Rattle.mw_geodesic_runs.proofs.Numbered.{numbers_respect, one_colour}
+use Rattle.mw_geodesic_runs.proofs.RowsOfAll.{all_cut}
 use Rattle.mw_geodesic_runs.proofs.Sides.{neighbours_agree}
 use Rattle.mw_geodesic_runs.proofs.Joinings.{colour_of, colours_agree, joined_by_colour}
 
@@ -47,3 +50,15 @@ pub components_by : (n : Neighbours) (f : Picture) (runs runs' : List Run) (numb
 components_by n f runs runs' numbers numbers' count reach is_set before same same_numbers near told =
     let told' : AreNumbered (columns_reached n) runs numbers count = subst (λ (t : ℕ). AreNumbered t runs numbers count) near (subst (λ (t : List Run). AreNumbered reach t numbers count) same told) in
     subst (λ (t : List ℕ). AreComponents (neighbours_of n) f runs t count) (sym same_numbers) (are_components n f runs told'.parent numbers count is_set before told'.forest told'.numbering)
+
+-- the spans of the runs with the numbers of the classes of a forest
+pub are_spans : (n : Neighbours) (f : Picture) (spans : List Span) (starts parent parent' numbers numbers' : List ℕ) (count reach : ℕ) → IsSet f → AreHeldAbove f f.height spans starts → reach ≡ columns_reached n → parent' ≡ parent
+    → ((runs : List Run) → RunsBefore f 0 f.height runs → IsForestOf reach runs parent) → NumbersClasses parent' (length parent') numbers count → numbers' ≡ numbers → AreRunSpans (neighbours_of n) f spans starts numbers' count
+are_spans n f spans starts parent parent' numbers numbers' count reach is_set held near same_parent forest told same = record {
+  some = all_cut f f.height (get_or starts f.height 0) refl (held.cut f.height (omega arith));
+  held = held;
+  each = λ runs cut.
+      let told' : NumbersClasses parent (length parent) numbers count = subst (λ (t : List ℕ). NumbersClasses t (length t) numbers count) same_parent told in
+      subst (λ (t : List ℕ). AreComponents (neighbours_of n) f runs t count) (sym same)
+      (are_components n f runs parent numbers count is_set cut (subst (λ (t : ℕ). IsForestOf t runs parent) near (forest runs cut)) told');
+}

@@ -3,8 +3,8 @@ use Rattle.std.proofs.Common.{◌≡◌, ℕ, ◌+◌, ◌<◌, ◌≤◌, List,
 use Rattle.std.proofs.lemmas.Bool.{cases_lt, cases_order}
 use Rattle.mw_geodesic_runs.specs.declared.runs.Run.{Run}
 use Rattle.mw_geodesic_runs.specs.Runs.{run_numbered, Precedes, AreInOrder}
-use Rattle.mw_geodesic_runs.specs.Forests.{IsForest, Respects, AllAlone, HasJoinedIf}
-use Rattle.mw_geodesic_runs.specs.Touching.{Touches, EndsFirst, Agree, IsForestOf}
+use Rattle.mw_geodesic_runs.specs.Forests.{IsForest, AllAlone, HasJoinedIf}
+use Rattle.mw_geodesic_runs.specs.Touching.{Touches, EndsFirst, Agree, AreUnited, IsForestOf}
 use Rattle.mw_geodesic_runs.proofs.Classes.{alone_forest, alone_respects}
 
 -- a run that ends first touches none behind the other
@@ -82,7 +82,7 @@ agree_second reach runs i j f low order late was here = record {
   ];
 }
 
-agree_less : (reach : ℕ) (runs : List Run) (i j k l : ℕ) (f : ℕ → ℕ) → i ≤ k → j ≤ l → Agree reach runs k l f → Agree reach runs i j f
+pub agree_less : (reach : ℕ) (runs : List Run) (i j k l : ℕ) (f : ℕ → ℕ) → i ≤ k → j ≤ l → Agree reach runs k l f → Agree reach runs i j f
 agree_less reach runs i j k l f low low' agree = record {
   one = λ p q in_p in_q which t. elim which [
     | inl before ↦ agree.one p q in_p in_q (inl (omega arith)) t
@@ -90,15 +90,7 @@ agree_less reach runs i j k l f low low' agree = record {
   ];
 }
 
--- what is united before the first is number i and the second number j
-pub record Uniting (reach : ℕ) (runs : List Run) (i j : ℕ) (parent : List ℕ) : Type 0 where
-  pub forest : IsForest parent
-  pub size : length parent ≡ length runs
-  pub ahead : i ≤ j
-  pub back : (f : ℕ → ℕ) → Respects parent f → Agree reach runs i j f
-  pub on : (f : ℕ → ℕ) → Agree reach runs i j f → Respects parent f
-
-pub uniting_begins : (reach : ℕ) (runs : List Run) (parent : List ℕ) → AllAlone parent → length runs ≡ length parent → Uniting reach runs 0 0 parent
+pub uniting_begins : (reach : ℕ) (runs : List Run) (parent : List ℕ) → AllAlone parent → length runs ≡ length parent → AreUnited reach runs 0 0 parent
 uniting_begins reach runs parent alone size = record {
   forest = alone_forest parent alone;
   size = sym size;
@@ -108,7 +100,7 @@ uniting_begins reach runs parent alone size = record {
 }
 
 pub uniting_first : (reach : ℕ) (runs : List Run) (i j : ℕ) (parent new : List ℕ) → reach ≤ 1 → j < length runs → AreInOrder runs → length new ≡ length parent → IsForest new
-    → HasJoinedIf (Touches reach (run_numbered runs i) (run_numbered runs j)) parent i j new → EndsFirst (run_numbered runs i) (run_numbered runs j) → Uniting reach runs i j parent → Uniting reach runs (i + 1) j new
+    → HasJoinedIf (Touches reach (run_numbered runs i) (run_numbered runs j)) parent i j new → EndsFirst (run_numbered runs i) (run_numbered runs j) → AreUnited reach runs i j parent → AreUnited reach runs (i + 1) j new
 uniting_first reach runs i j parent new low within order same_size forest joined ends was =
     let ahead = was.ahead in
     let apart : i < j = elim (cases_lt i j) [
@@ -126,7 +118,7 @@ uniting_first reach runs i j parent new low within order same_size forest joined
     }
 
 pub uniting_second : (reach : ℕ) (runs : List Run) (i j : ℕ) (parent new : List ℕ) → reach ≤ 1 → j < length runs → AreInOrder runs → length new ≡ length parent → IsForest new
-    → HasJoinedIf (Touches reach (run_numbered runs i) (run_numbered runs j)) parent i j new → (EndsFirst (run_numbered runs i) (run_numbered runs j) → ⊥) → Uniting reach runs i j parent → Uniting reach runs i (j + 1) new
+    → HasJoinedIf (Touches reach (run_numbered runs i) (run_numbered runs j)) parent i j new → (EndsFirst (run_numbered runs i) (run_numbered runs j) → ⊥) → AreUnited reach runs i j parent → AreUnited reach runs i (j + 1) new
 uniting_second reach runs i j parent new low within order same_size forest joined late was =
     let ahead = was.ahead in
     record {
@@ -137,7 +129,7 @@ uniting_second reach runs i j parent new low within order same_size forest joine
       on = λ f agree. joined.on f (was.on f (agree_less reach runs i j i (j + 1) f (omega arith) (omega arith) agree)) (λ t. agree.one i j (omega arith) within (inr (omega arith)) t);
     }
 
-pub uniting_ended : (reach : ℕ) (runs : List Run) (i j : ℕ) (parent : List ℕ) → length runs ≤ j → Uniting reach runs i j parent → IsForestOf reach runs parent
+pub uniting_ended : (reach : ℕ) (runs : List Run) (i j : ℕ) (parent : List ℕ) → length runs ≤ j → AreUnited reach runs i j parent → IsForestOf reach runs parent
 uniting_ended reach runs i j parent end was = record {
   forest = was.forest;
   size = was.size;

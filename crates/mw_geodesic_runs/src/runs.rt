@@ -1,9 +1,11 @@
 //! The runs of a set, row by row.
 
-ghost use Rattle.std.specs.Prelude.{◌≡◌, ℕ, ◌+◌, ◌-◌, ◌*◌, ◌<◌, ◌≤◌, ◌^◌, length, vec_len, vec_capacity, IfOk};
+ghost use Rattle.std.specs.Prelude.{◌≡◌, ℕ, ◌+◌, ◌-◌, ◌*◌, ◌<◌, ◌≤◌, ◌^◌, List, ◌++◌, length, vec_len, vec_capacity, IfOk};
 ghost use Rattle.std.specs.Int.{bit_at};
 ghost use Rattle.mw_pixel.specs.Images.{set_of};
-ghost use Rattle.mw_geodesic_runs.specs.Runs.{RunsBefore, begin_at, run_count, tally};
+ghost use Rattle.mw_geodesic_runs.specs.declared.runs.Run.{Run};
+ghost use Rattle.mw_geodesic_runs.specs.Runs.{RunsBefore, begin_at, begun, run_count, tally};
+ghost use Rattle.mw_geodesic_runs.specs.Rows.{AreCutAbove, AreRowRunsFrom};
 ghost use Rattle.mw_pixel.specs.mw_pixel_words.Packed.{bit_of};
 
 use crate::changes::{changes_behind, next_change};
@@ -21,14 +23,13 @@ pub struct Run {
     pub end: u16,
 }
 
-/// Adds the runs of a row. There is room for all of the set.
+/// Adds the runs of a row, for which there is room, behind those of the rows above.
 fn cut_row(set: &Words, y: u32, runs: &mut Vec<Run>)
     requires narrow { set.now.width < 2 ^ 16 }
     requires row { y < set.now.height }
-    requires above { RunsBefore (set_of set.now) 0 y runs.old.items }
-    requires room { vec_capacity runs.old ≡ run_count (set_of set.now) }
-    ensures runs { RunsBefore (set_of set.now) 0 (y + 1) runs.new.items }
-    ensures room { vec_capacity runs.new ≡ run_count (set_of set.now) }
+    requires room { length runs.old.items + begun (set_of set.now) y set.now.width ≤ vec_capacity runs.old }
+    ensures runs { (above : List Run) → RunsBefore (set_of set.now) 0 y (above ++ runs.old.items) → RunsBefore (set_of set.now) 0 (y + 1) (above ++ runs.new.items) }
+    ensures room { vec_capacity runs.new ≡ vec_capacity runs.old }
 {
     let words = set.row(y);
     let limit = 64 * words.len();
@@ -43,6 +44,21 @@ fn cut_row(set: &Words, y: u32, runs: &mut Vec<Run>)
         });
         at = next_change(words, end, &mut left);
     }
+}
+
+/// The runs of a row in place of what the list had, in which there is room for a run of each column.
+pub(crate) fn runs_in_row(set: &Words, y: u32, runs: &mut Vec<Run>)
+    requires narrow { set.now.width < 2 ^ 16 }
+    requires row { y < set.now.height }
+    requires room { set.now.width ≤ vec_capacity runs.old }
+    ensures are { (all : List Run) (n : ℕ) → RunsBefore (set_of set.now) 0 set.now.height all → AreCutAbove (set_of set.now) y n → AreRowRunsFrom all n runs.new.items }
+    ensures next { (n : ℕ) → AreCutAbove (set_of set.now) y n → AreCutAbove (set_of set.now) (y + 1) (n + length runs.new.items) }
+    ensures room { vec_capacity runs.new ≡ vec_capacity runs.old }
+{
+    // for its samples
+    let _width = set.width();
+    runs.clear();
+    cut_row(set, y, runs);
 }
 
 /// The bits at which runs begin, in a word of a row behind a word that ends with this bit.
@@ -81,7 +97,7 @@ fn count_starts(words: &[u64]) -> usize
 }
 
 /// How many runs a set has.
-fn count_runs(set: &Words) -> usize
+pub(crate) fn count_runs(set: &Words) -> usize
     requires { set.now.width < 2 ^ 16 }
     ensures { result ≡ run_count (set_of set.now) }
 {

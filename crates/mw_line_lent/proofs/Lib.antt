@@ -3,4 +3,5 @@ mod Bests
 mod Columns
 mod Puts
 mod LineCells
+mod Near
 mod Vectors

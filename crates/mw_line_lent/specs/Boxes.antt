@@ -1,10 +1,15 @@
 -- What lines and rows of results have (own).
-use Rattle.std.specs.Prelude.{◌≡◌, ◌⊎◌, ℕ, ◌+◌, ◌-◌, ◌*◌, ◌<◌, ◌≤◌, List, length, slice_index_or}
+use Rattle.std.specs.Prelude.{◌≡◌, ◌⊎◌, ℕ, ◌+◌, ◌-◌, ◌*◌, ◌<◌, ◌≤◌, pos, negsuc, ◌+ℤ◌, ◌-ℤ◌, ◌≤ℤ◌, List, length, slice_index_or}
+use Rattle.mw_model.specs.declared.limits.TheConstants.{FAR_LIMIT}
+use Rattle.mw_model.specs.declared.offsets.OffsetBox.{OffsetBox}
+use Rattle.mw_model.specs.declared.offsets.Rect.{Rect}
 use Rattle.mw_model.specs.Windows.{View}
+use Rattle.mw_line.specs.Sides.{IsSeenSide}
 use Rattle.mw_line.specs.Cells.{merged_cell}
 use Rattle.mw_line.specs.Extrema.{over_box}
 use Rattle.mw_line_lent.specs.declared.boxes.Boxes.{Boxes}
 use Rattle.mw_line_lent.specs.Bests.{IsBest}
+use Rattle.mw_line_lent.specs.Parts.{IsOverlap}
 
 -- how many places a line has
 abbrev pub wide_of : Boxes → ℕ
@@ -18,6 +23,20 @@ pub record IsSuited (width : ℕ) (b : Boxes) : Type 0 where
   pub low : b.down ≤ 256
   pub wide : width ≤ b.width
   pub part : width ≤ b.part.count
+
+-- these are the boxes at the places of a tile, without the columns and rows of each from which nothing of the place is seen
+pub record AreBoxesOf (place : Rect) (box : OffsetBox) (tile : Rect) (b : Boxes) : Type 0 where
+  pub ahead : ℕ
+  pub above : ℕ
+  pub across : IsSeenSide tile.x tile.width place.x place.width box.x0 box.x1 ahead b.across
+  pub down : IsSeenSide tile.y tile.height place.y place.height box.y0 box.y1 above b.down
+  pub column : b.column ≡ pos tile.x +ℤ (box.x0 +ℤ pos ahead) -ℤ pos place.x
+  pub row : b.row ≡ pos tile.y +ℤ (box.y0 +ℤ pos above) -ℤ pos place.y
+  pub width : b.width ≡ tile.width
+  pub height : b.height ≡ tile.height
+  pub part : IsOverlap b.column (wide_of b) place.width b.part
+  pub near : negsuc FAR_LIMIT ≤ℤ b.row
+  pub far : b.row ≤ℤ pos FAR_LIMIT
 
 -- the cells from a place on are the line of row y: each is the extremum of what the view has down its column from there on
 abbrev pub HasLine : {A : Type 0} → (A → A → A) → A → View A → Boxes → ℕ → ℕ → List A → Type 0

@@ -1,3 +1,4 @@
 pub mod Bests
 pub mod Parts
 pub mod Boxes
+pub mod Near

@@ -6,6 +6,8 @@
 //!
 //! ```text
 //! if boxes_into::<u8, Min>(alloc, &lent, offsets, maxval, tile, &mut out)? { .. }
+//! // the same with room that was asked for before, which is never refused
+//! boxes_with_room::<u8, Max>(&strip, offsets, 0, tile, &mut room, &mut out);
 //! ```
 #![tactic(auto)]
 
@@ -23,7 +25,7 @@ mod tiles;
 
 pub use extrema::LanedExtremum;
 pub use lanes::Laned;
-pub use mw_line::pixel::{Max, Min};
+pub use mw_line::pixel::{Max, Min, copies};
 pub use mw_model::{NoMemory, OffsetBox};
 pub use mw_tile_lent::{Lent, Rect};
-pub use tiles::boxes_into;
+pub use tiles::{boxes_into, boxes_with_room};

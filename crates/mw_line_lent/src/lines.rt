@@ -13,7 +13,7 @@ use mw_line::pixel::Pixel;
 use mw_tile_lent::Lent;
 
 /// Fills so many places from one on.
-fn fill<P: Pixel>(out: &mut [P], at: usize, n: usize, neutral: P)
+pub(crate) fn fill<P: Pixel>(out: &mut [P], at: usize, n: usize, neutral: P)
     requires { at + n ≤ length out.old }
     ensures put { IsPutAt at n out.old out.new }
     ensures made { (i : ℕ) (d : P) → i < n → slice_index_or out.new (at + i) d ≡ neutral }

@@ -8,14 +8,14 @@ ghost use Rattle.mw_line.specs.mw_tile.Windows.{IsWindow};
 ghost use Rattle.mw_line.specs.Extrema.{IsSlidingExtremum};
 ghost use Rattle.mw_line_lent.specs.Parts.{IsOverlap};
 ghost use Rattle.mw_line_lent.specs.Boxes.{HasBoxes, IsBlank, IsSuited, wide_of};
+ghost use Rattle.mw_line_lent.specs.Near.{IsAround, StandsInside};
 
-use crate::boxes::{Boxes, is_suited, part_of};
+use crate::boxes::{Boxes, boxes_of, is_suited};
 use crate::extrema::LanedExtremum;
 use crate::lanes::Laned;
-use crate::lines::put_lines;
+use crate::lines::{fill, put_lines};
 use crate::rows::put_rows;
 use mw_line::pixel::copies;
-use mw_line::{first_seen, seen_across, seen_down};
 use mw_model::{NoMemory, OffsetBox};
 use mw_tile_lent::{Lent, Rect};
 use std::alloc::Global;
@@ -48,6 +48,33 @@ fn put_all<P: Laned, E: LanedExtremum<P>>(
     }
 }
 
+/// Writes all rows, with room for six lines.
+fn put_with_room<P: Laned, E: LanedExtremum<P>>(
+    lent: &Lent<P>,
+    boxes: Boxes,
+    neutral: P,
+    room: &mut [P],
+    out: &mut [P],
+)
+    requires suited { IsSuited P.WIDTH boxes }
+    requires part { IsOverlap boxes.column (wide_of boxes) lent.now.place.width boxes.part }
+    requires wide { boxes.width < 2 ^ 32 }
+    requires low { boxes.height < 2 ^ 32 }
+    requires near { negsuc FAR_LIMIT ≤ℤ boxes.row }
+    requires far { boxes.row ≤ℤ pos FAR_LIMIT }
+    requires lines { 6 * wide_of boxes ≤ length room.old }
+    requires room { length out.old ≡ boxes.height * boxes.width }
+    ensures lines { length room.new ≡ length room.old }
+    ensures size { length out.new ≡ length out.old }
+    ensures made { HasBoxes E.merge neutral lent.now boxes boxes.height out.new }
+{
+    let wide = boxes.width + (boxes.across - 1);
+    let (lines, rest) = room.split_at_mut(4 * wide);
+    let (spare, _others) = rest.split_at_mut(2 * wide);
+    fill(lines, 0, 4 * wide, neutral);
+    put_all::<P, E>(lent, boxes, neutral, lines, spare, out);
+}
+
 /// Writes all rows, for which it wants memory first.
 fn put_boxes<P: Laned, E: LanedExtremum<P>>(
     alloc: Global,
@@ -68,16 +95,8 @@ fn put_boxes<P: Laned, E: LanedExtremum<P>>(
     ensures kept { IfErr result (λ _. out.new ≡ out.old) }
 {
     let wide = boxes.width + (boxes.across - 1);
-    let mut lines = copies(alloc, 4 * wide, neutral)?;
-    let mut spare = copies(alloc, 2 * wide, neutral)?;
-    put_all::<P, E>(
-        lent,
-        boxes,
-        neutral,
-        lines.as_mut_slice(),
-        spare.as_mut_slice(),
-        out,
-    );
+    let mut room = copies(alloc, 6 * wide, neutral)?;
+    put_with_room::<P, E>(lent, boxes, neutral, room.as_mut_slice(), out);
     Ok(())
 }
 
@@ -96,28 +115,37 @@ pub fn boxes_into<P: Laned, E: LanedExtremum<P>>(
     requires { length out.old ≡ tile.height * tile.width }
     ensures over_window { IfOk result (λ done. done ≡ true → IsSlidingExtremum E.merge neutral (seen_at lent.now) (box_offsets offsets) tile (raster tile.width tile.height out.new)) }
     ensures over_frame { IfOk result (λ done. done ≡ true → (f : Raster P) → IsWindow lent.now f (box_offsets offsets) tile → IsSlidingExtremum E.merge neutral (cell_at f) (box_offsets offsets) tile (raster tile.width tile.height out.new)) }
+    ensures near { IfOk result (λ done. IsAround offsets → StandsInside lent.now.place tile → done ≡ true) }
     ensures left_out { IfOk result (λ done. done ≡ false → out.new ≡ out.old) }
     ensures kept { IfErr result (λ _. out.new ≡ out.old) }
 {
-    let place = lent.place();
-    let across = seen_across(offsets, tile, place);
-    let down = seen_down(offsets, tile, place);
-    let column = first_seen(tile.x, offsets.x0, across.skipped, place.x);
-    let row = first_seen(tile.y, offsets.y0, down.skipped, place.y);
-    let width = tile.width as usize;
-    let wide = width + across.count.saturating_sub(1);
-    let boxes = Boxes {
-        column,
-        row,
-        across: across.count,
-        down: down.count,
-        width,
-        height: tile.height as usize,
-        part: part_of(column, wide, place.width),
-    };
+    let boxes = boxes_of(lent.place(), offsets, tile);
     if !is_suited::<P>(boxes) {
         return Ok(false);
     }
     put_boxes::<P, E>(alloc, lent, boxes, neutral, out)?;
     Ok(true)
+}
+
+/// The same for a box that has the place it is put on and a tile that stands in what is lent, with room for lines in the place of
+/// memory: six of as many places as a row has and a box may have more.
+pub fn boxes_with_room<P: Laned, E: LanedExtremum<P>>(
+    lent: &Lent<P>,
+    offsets: OffsetBox,
+    neutral: P,
+    tile: Rect,
+    room: &mut [P],
+    out: &mut [P],
+)
+    requires around { IsAround offsets }
+    requires stands { StandsInside lent.now.place tile }
+    requires lines { 6 * (tile.width + 255) ≤ length room.old }
+    requires room { length out.old ≡ tile.height * tile.width }
+    ensures lines { length room.new ≡ length room.old }
+    ensures size { length out.new ≡ length out.old }
+    ensures over_window { IsSlidingExtremum E.merge neutral (seen_at lent.now) (box_offsets offsets) tile (raster tile.width tile.height out.new) }
+    ensures over_frame { (f : Raster P) → IsWindow lent.now f (box_offsets offsets) tile → IsSlidingExtremum E.merge neutral (cell_at f) (box_offsets offsets) tile (raster tile.width tile.height out.new) }
+{
+    let boxes = boxes_of(lent.place(), offsets, tile);
+    put_with_room::<P, E>(lent, boxes, neutral, room, out);
 }

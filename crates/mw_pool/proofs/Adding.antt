@@ -5,7 +5,7 @@ use Rattle.std.proofs.lemmas.Bool.Decides.{nat_tests}
 use mathlib.Core.List.{IsPrefix}
 use prog.Atomic.{either}
 use Rattle.logbook.specs.Pages.{Cell, cell, keeps, no_nib, step, Moves, Goes}
-use Rattle.mw_core.specs.mw_step_task.WindowTasks.{WindowTask}
+use Rattle.mw_pool_passes.specs.mw_step_task.WindowTasks.{WindowTask}
 use Rattle.mw_pool.specs.Rolls.{IsBookOf, Adds}
 use Rattle.mw_pool.proofs.Fronts.{prefix-whole}
 

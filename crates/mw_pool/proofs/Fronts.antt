@@ -2,7 +2,7 @@
 use Rattle.std.proofs.Common.{◌≡◌, ℕ, ◌≤◌, IsTrue, nat_le, List, [], ◌∷◌, ◌++◌, length, refl, ap, sym, ◌∙◌, arith, append_assoc}
 use Rattle.std.proofs.lemmas.Bool.Decides.{nat_tests}
 use mathlib.Core.List.{IsPrefix}
-use Rattle.mw_core.specs.mw_step_task.WindowTasks.{WindowTask}
+use Rattle.mw_pool_passes.specs.mw_step_task.WindowTasks.{WindowTask}
 use Rattle.mw_pool.specs.Rolls.{EndsWith, StandsIn}
 
 pub le-true : (a b : ℕ) → IsTrue (nat_le a b) → a ≤ b

@@ -19,23 +19,23 @@ use Rattle.mw_model.specs.Refusals.{Table, is_pending, outcome_at, refusal, subm
 use Rattle.mw_model.specs.Machine.{Machine, after, changed, given_submission, killed, payload_of, run_submission, settled, unless_refused, with_table}
 use Rattle.mw_model.specs.Tasks.{Progress, flag, is_running}
 use Rattle.mw_model.specs.Stands.{CoreView, StandsFor, input_values, inputs_there, progress_at}
-use Rattle.mw_core.specs.mw_model_laws.MachineLaws.{IsSound}
-use Rattle.mw_core.proofs.mw_model_laws.RunGrowth.{grows_added}
-use Rattle.mw_core.proofs.mw_model_laws.RunSteps.{pushed}
-use Rattle.mw_core.specs.mw_step_task.WindowTasks.{WindowTask}
-use Rattle.mw_core.specs.declared.answers.Started.{Started}
-use Rattle.mw_core.specs.declared.answers.Started.TheVariants as started
-use Rattle.mw_core.specs.declared.answers.Finish.{Finish}
-use Rattle.mw_core.specs.declared.answers.Finish.TheVariants as finish
-use Rattle.mw_core.specs.declared.answers.Refusal.{Refusal}
-use Rattle.mw_core.specs.declared.answers.Refusal.TheVariants as refusal
-use Rattle.mw_core.specs.TaskAnswers.{Starts, AnswersFinish, IsOwn, AnswersRefusal}
-use Rattle.mw_core.specs.mw_core_laws.Events.{FollowsMachine, WorkStays}
-use Rattle.mw_core.specs.mw_core_laws.TaskEvents.{BeginsTask, Kills, Places}
-use Rattle.mw_core.specs.mw_core_laws.Works.{true_task}
-use Rattle.mw_core.proofs.mw_core_laws.StandsLemmas.{stands-sound}
-use Rattle.mw_core.proofs.mw_core_laws.TaskLemmas.{has-place, kept-images, same-number, same-plan, work-of}
-use Rattle.mw_core.proofs.mw_core_laws.Later.{goes-on}
+use Rattle.mw_pool_passes.specs.mw_model_laws.MachineLaws.{IsSound}
+use Rattle.mw_pool_passes.proofs.mw_model_laws.RunGrowth.{grows_added}
+use Rattle.mw_pool_passes.proofs.mw_model_laws.RunSteps.{pushed}
+use Rattle.mw_pool_passes.specs.mw_step_task.WindowTasks.{WindowTask}
+use Rattle.mw_pool_passes.specs.mw_core.declared.answers.Started.{Started}
+use Rattle.mw_pool_passes.specs.mw_core.declared.answers.Started.TheVariants as started
+use Rattle.mw_pool_passes.specs.mw_core.declared.answers.Finish.{Finish}
+use Rattle.mw_pool_passes.specs.mw_core.declared.answers.Finish.TheVariants as finish
+use Rattle.mw_pool_passes.specs.mw_core.declared.answers.Refusal.{Refusal}
+use Rattle.mw_pool_passes.specs.mw_core.declared.answers.Refusal.TheVariants as refusal
+use Rattle.mw_pool_passes.specs.mw_core.TaskAnswers.{Starts, AnswersFinish, IsOwn, AnswersRefusal}
+use Rattle.mw_pool_passes.specs.mw_core_laws.Events.{FollowsMachine, WorkStays}
+use Rattle.mw_pool_passes.specs.mw_core_laws.TaskEvents.{BeginsTask, Kills, Places}
+use Rattle.mw_pool_passes.specs.mw_core_laws.Works.{true_task}
+use Rattle.mw_pool_passes.proofs.mw_core_laws.StandsLemmas.{stands-sound}
+use Rattle.mw_pool_passes.proofs.mw_core_laws.TaskLemmas.{has-place, kept-images, same-number, same-plan, work-of}
+use Rattle.mw_pool_passes.proofs.mw_core_laws.Later.{goes-on}
 use Rattle.mw_pool.specs.Handed.{AreHanded, IsHanded}
 use Rattle.mw_pool.specs.Rolls.{StandsIn, Writes}
 

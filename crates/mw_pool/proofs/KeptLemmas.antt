@@ -17,17 +17,17 @@ use Rattle.mw_model.specs.Values.{Value}
 use Rattle.mw_model.specs.Refusals.{ticket_of, outcome_at, refusal}
 use Rattle.mw_model.specs.Machine.{Machine, after, answer, reply_to, status_reply}
 use Rattle.mw_model.specs.Stands.{CoreView, StandsFor}
-use Rattle.mw_core.specs.mw_step_task.WindowTasks.{WindowTask}
-use Rattle.mw_core.specs.declared.answers.Started.{Started}
-use Rattle.mw_core.specs.declared.answers.Started.TheVariants as started
-use Rattle.mw_core.specs.declared.answers.Finish.{Finish}
-use Rattle.mw_core.specs.declared.answers.Finish.TheVariants as finish
-use Rattle.mw_core.specs.declared.answers.Refusal.{Refusal}
-use Rattle.mw_core.specs.declared.answers.Refusal.TheVariants as refusal
-use Rattle.mw_core.specs.mw_core_laws.Events.{FollowsMachine}
-use Rattle.mw_core.proofs.mw_core_laws.ShownLemmas.{IsPlain, answer-not_shown, refused_or-not_shown}
-use Rattle.mw_core.specs.TaskAnswers.{Starts, AnswersFinish, AnswersRefusal}
-use Rattle.mw_core.specs.mw_store.Fetches.{ShowsSome}
+use Rattle.mw_pool_passes.specs.mw_step_task.WindowTasks.{WindowTask}
+use Rattle.mw_pool_passes.specs.mw_core.declared.answers.Started.{Started}
+use Rattle.mw_pool_passes.specs.mw_core.declared.answers.Started.TheVariants as started
+use Rattle.mw_pool_passes.specs.mw_core.declared.answers.Finish.{Finish}
+use Rattle.mw_pool_passes.specs.mw_core.declared.answers.Finish.TheVariants as finish
+use Rattle.mw_pool_passes.specs.mw_core.declared.answers.Refusal.{Refusal}
+use Rattle.mw_pool_passes.specs.mw_core.declared.answers.Refusal.TheVariants as refusal
+use Rattle.mw_pool_passes.specs.mw_core_laws.Events.{FollowsMachine}
+use Rattle.mw_pool_passes.proofs.mw_core_laws.ShownLemmas.{IsPlain, answer-not_shown, refused_or-not_shown}
+use Rattle.mw_pool_passes.specs.mw_core.TaskAnswers.{Starts, AnswersFinish, AnswersRefusal}
+use Rattle.mw_pool_passes.specs.mw_store.Fetches.{ShowsSome}
 use Rattle.mw_pool.specs.Tickets.{IsAwaited}
 
 -- it stands for some state

@@ -1,5 +1,4 @@
 -- the crate's own
-mod AuditLemmas
 mod Fronts
 mod Adding
 mod Handing

@@ -6,8 +6,8 @@ use Rattle.mw_model.specs.declared.names.Name.{Name}
 use Rattle.mw_model.specs.Refusals.{Table, ticket_of, outcome_at, is_pending}
 use Rattle.mw_model.specs.Machine.{Machine}
 use Rattle.mw_model.specs.Stands.{CoreView, StandsFor}
-use Rattle.mw_core.proofs.mw_model_laws.RunCascade.{pending_is}
-use Rattle.mw_core.proofs.mw_model_laws.RunTables.{ticket_within}
+use Rattle.mw_pool_passes.proofs.mw_model_laws.RunCascade.{pending_is}
+use Rattle.mw_pool_passes.proofs.mw_model_laws.RunTables.{ticket_within}
 use Rattle.mw_pool.specs.Tickets.{IsAwaited}
 
 -- what the core's table tells of a name, that of the machine does

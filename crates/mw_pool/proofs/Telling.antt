@@ -11,9 +11,9 @@ use Rattle.mw_model.specs.declared.receipts.Receipt.{Receipt}
 use Rattle.mw_model.specs.Pictures.{Picture}
 use Rattle.mw_model.specs.Elements.{Figure}
 use Rattle.mw_model.specs.Values.{ImageValue, ElementValue}
-use Rattle.mw_core.specs.mw_core_laws.Payloads.{given_image, given_element}
+use Rattle.mw_pool_passes.specs.mw_core_laws.Payloads.{given_image, given_element}
 use Rattle.mw_session_laws.specs.Payloads.{ReadsImage, ReadsElement}
-use Rattle.mw_pool.specs.Passes.{AddsReceipt, with_receipt}
+use Rattle.mw_pool_passes.specs.Passes.{AddsReceipt, with_receipt}
 use Rattle.mw_pool.specs.Payloads.{TellsImage, TellsElement}
 
 told_image : (bytes : List ℕ) (image : Result Picture Code) → ReadsImage bytes image → TellsImage bytes (given_image image)

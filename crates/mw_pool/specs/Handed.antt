@@ -4,10 +4,10 @@ use Rattle.std.specs.List.{AllByRecursion}
 use Rattle.mw_model.specs.Machine.{Machine}
 use Rattle.mw_model.specs.Tasks.{Progress}
 use Rattle.mw_model.specs.Stands.{CoreView, StandsFor, progress_at}
-use Rattle.mw_core.specs.mw_step_task.WindowTasks.{WindowTask}
-use Rattle.mw_core.specs.mw_core_laws.Works.{true_task}
-use Rattle.mw_core.specs.declared.answers.Started.{Started}
-use Rattle.mw_core.specs.TaskAnswers.{Starts}
+use Rattle.mw_pool_passes.specs.mw_step_task.WindowTasks.{WindowTask}
+use Rattle.mw_pool_passes.specs.mw_core_laws.Works.{true_task}
+use Rattle.mw_pool_passes.specs.mw_core.declared.answers.Started.{Started}
+use Rattle.mw_pool_passes.specs.mw_core.TaskAnswers.{Starts}
 
 -- Its ticket is there, and where there is work under it still, the task of these numbers is this one: so of each task that was handed out, from then on.
 abbrev pub IsHanded : CoreView → Machine → WindowTask → Type 0

@@ -1,9 +1,9 @@
 -- The roll of the tasks that were handed out.
 use Rattle.std.specs.Prelude.{ℕ, ◌≡◌, ◌==◌, true, List, [], ◌∷◌, ◌++◌, length, MatchBool, Option, Some, None, IfSome}
 use Rattle.logbook.specs.Pages.{Cell, Step, View, Book, Named}
-use Rattle.mw_core.specs.mw_step_task.WindowTasks.{WindowTask}
-use Rattle.mw_core.specs.declared.answers.Started.{Started}
-use Rattle.mw_core.specs.declared.answers.Started.TheVariants as started
+use Rattle.mw_pool_passes.specs.mw_step_task.WindowTasks.{WindowTask}
+use Rattle.mw_pool_passes.specs.mw_core.declared.answers.Started.{Started}
+use Rattle.mw_pool_passes.specs.mw_core.declared.answers.Started.TheVariants as started
 
 -- the first word of the book is the length of the roll. A book has two words, of which this one leaves the second at 0
 abbrev pub IsBookOf : List Cell → List WindowTask → Type 0

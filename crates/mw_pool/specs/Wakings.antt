@@ -1,10 +1,10 @@
 -- Which of the sessions that wait look again behind a hold of the lock.
-use Rattle.mw_core.specs.declared.answers.Started.{Started}
-use Rattle.mw_core.specs.declared.answers.Started.TheVariants as started
-use Rattle.mw_core.specs.declared.answers.Finish.{Finish}
-use Rattle.mw_core.specs.declared.answers.Finish.TheVariants as finish
-use Rattle.mw_core.specs.declared.answers.Refusal.{Refusal}
-use Rattle.mw_core.specs.declared.answers.Refusal.TheVariants as refusal
+use Rattle.mw_pool_passes.specs.mw_core.declared.answers.Started.{Started}
+use Rattle.mw_pool_passes.specs.mw_core.declared.answers.Started.TheVariants as started
+use Rattle.mw_pool_passes.specs.mw_core.declared.answers.Finish.{Finish}
+use Rattle.mw_pool_passes.specs.mw_core.declared.answers.Finish.TheVariants as finish
+use Rattle.mw_pool_passes.specs.mw_core.declared.answers.Refusal.{Refusal}
+use Rattle.mw_pool_passes.specs.mw_core.declared.answers.Refusal.TheVariants as refusal
 use Rattle.mw_pool.specs.declared.signals.Sleepers.{Sleepers}
 use Rattle.mw_pool.specs.declared.signals.Sleepers.TheVariants as sleepers
 

@@ -3,13 +3,12 @@
 ghost use Rattle.std.specs.Prelude.{◌≡◌, ◌↔◌, [], true, IfOk, IfSome, OnErr, IsTrue, IsSome};
 
 use crate::kept::{Exchange, LockedState};
-use crate::pass::Pass;
 use crate::roll::{Front, Naming, NewRoll};
 use crate::signals::{Signals, Sleepers};
 use crossbeam_utils::Backoff;
-use mw_core::task::{TaskRefused, TileDone, Work};
-use mw_core::{Core, Fetched, Started};
 use mw_model::{Name, NoMemory, Op, Reply};
+use mw_pool_passes::task::{TaskRefused, TileDone, Work};
+use mw_pool_passes::{Core, Fetched, Pass, Started};
 use mw_session_laws::{read_element, read_image};
 use std::alloc::Global;
 use std::sync::{Condvar, Mutex, MutexGuard, Wait};
@@ -41,9 +40,9 @@ impl<J: Naming> Board<J> {
     ghost use Rattle.mw_model.specs.Machine.{Machine};
     ghost use Rattle.mw_model.specs.Stands.{CoreView, StandsFor};
     ghost use Rattle.mw_model.specs.Receipts.{Covers};
-    ghost use Rattle.mw_core.specs.mw_store.Fetches.{ShowsSome, shown_value};
-    ghost use Rattle.mw_pool.specs.Passes.{AddsReceipt};
-    ghost use Rattle.mw_core.specs.mw_step_task.WindowTasks.{IsBounded};
+    ghost use Rattle.mw_pool_passes.specs.mw_store.Fetches.{ShowsSome, shown_value};
+    ghost use Rattle.mw_pool_passes.specs.Passes.{AddsReceipt};
+    ghost use Rattle.mw_pool_passes.specs.mw_step_task.WindowTasks.{IsBounded};
     ghost use Rattle.mw_pool.specs.Payloads.{TellsImage, TellsElement};
     ghost use Rattle.mw_pool.specs.Rolls.{EndsWith};
 

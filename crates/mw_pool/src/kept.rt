@@ -5,15 +5,13 @@ ghost use Rattle.mw_model.specs.Machine.{Machine};
 ghost use Rattle.mw_model.specs.Stands.{CoreView, StandsFor, ready_count};
 ghost use Rattle.mw_pool.specs.Handed.{AreHanded};
 
-use crate::auditing::audit;
-use crate::pass::Pass;
 use crate::roll::{Front, Naming, NewRoll, Roll};
 use crate::tickets::awaited_ticket;
-use mw_core::element::Element;
-use mw_core::pixel::Image;
-use mw_core::task::{TaskRefused, TileDone};
-use mw_core::{Core, Fetched, Finish, Refusal, Started};
 use mw_model::{Code, Name, NoMemory, Op, Reply};
+use mw_pool_passes::element::Element;
+use mw_pool_passes::pixel::Image;
+use mw_pool_passes::task::{TaskRefused, TileDone};
+use mw_pool_passes::{Core, Fetched, Finish, Pass, Refusal, Started, audit};
 
 /// What comes of a result in one hold of the lock: the answer to it, what its worker takes next, with what is then seen of the
 /// roll, or none of a closed board, and how many sleeping workers have something to do.
@@ -48,12 +46,12 @@ impl<J: Naming> LockedState<J> {
     ghost use Rattle.mw_model.specs.declared.calls.Call.TheVariants as call;
     ghost use Rattle.mw_model.specs.Receipts.{Covers};
     ghost use Rattle.mw_model.specs.Refusals.{ticket_of};
-    ghost use Rattle.mw_core.specs.mw_core_laws.Payloads.{given_image, image_payload, given_element, element_payload};
-    ghost use Rattle.mw_core.specs.mw_core_laws.Events.{FollowsMachine};
-    ghost use Rattle.mw_core.specs.mw_step_task.WindowTasks.{IsBounded};
-    ghost use Rattle.mw_core.specs.TaskAnswers.{Starts, StartsBounded, AnswersFinish, AnswersRefusal};
-    ghost use Rattle.mw_core.specs.mw_store.Fetches.{ShowsSome, shown_value};
-    ghost use Rattle.mw_pool.specs.Passes.{with_receipt};
+    ghost use Rattle.mw_pool_passes.specs.mw_core_laws.Payloads.{given_image, image_payload, given_element, element_payload};
+    ghost use Rattle.mw_pool_passes.specs.mw_core_laws.Events.{FollowsMachine};
+    ghost use Rattle.mw_pool_passes.specs.mw_step_task.WindowTasks.{IsBounded};
+    ghost use Rattle.mw_pool_passes.specs.mw_core.TaskAnswers.{Starts, StartsBounded, AnswersFinish, AnswersRefusal};
+    ghost use Rattle.mw_pool_passes.specs.mw_store.Fetches.{ShowsSome, shown_value};
+    ghost use Rattle.mw_pool_passes.specs.Passes.{with_receipt};
     ghost use Rattle.mw_pool.specs.Rolls.{EndsWith, IsSlipOf, StandsIn};
     ghost use Rattle.mw_pool.specs.Tickets.{IsAwaited};
     ghost use Rattle.mw_pool.specs.Handed.{Follows};

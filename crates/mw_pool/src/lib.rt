@@ -1,5 +1,5 @@
-//! One core that sessions and workers share: a board, which is a lock round the core; passes, which keep a receipt of
-//! each call; and the audit of passes against the log.
+//! One core that sessions and workers share: a board, which is a lock round the core. Each session calls it with a pass, and once
+//! all have ended the passes are audited against the log (`mw_pool_passes`).
 //!
 //! Each hold of the lock is one event of the core. No pixel is computed, no payload is read and no text is made under
 //! it, and nothing waits there. Nor is a result that a worker brings compared with what the core has: the tasks that were
@@ -22,21 +22,14 @@
 //! ```
 #![tactic(auto)]
 
-mod auditing;
-mod blocks;
 mod board;
 mod kept;
-mod pass;
 mod roll;
-mod same;
 mod signals;
-mod stretches;
 mod tickets;
 mod workers;
 
-pub use auditing::audit;
 pub use board::Board;
-pub use mw_core::{Core, Fetched, FetchedValue, Finish, NoMemory, Started};
-pub use pass::Pass;
+pub use mw_pool_passes::{Core, Fetched, FetchedValue, Finish, NoMemory, Pass, Started, audit};
 pub use roll::{Naming, NewRoll};
 pub use workers::{Gate, work};

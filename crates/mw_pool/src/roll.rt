@@ -7,8 +7,8 @@ ghost use mathlib.Core.List.{IsPrefix};
 ghost use Rattle.mw_pool.specs.Rolls.{EndsWith, StandsIn, Writes, book_head};
 
 use logbook::{Gain, Offer, Plain, Play, Rule, Seen, Start, Word};
-use mw_core::Started;
-use mw_core::task::{TileDone, Work};
+use mw_pool_passes::Started;
+use mw_pool_passes::task::{TileDone, Work};
 use std::marker::{Brand, Model, PhantomData};
 
 /// The rule of the book: its first word is the length of the roll.
@@ -115,7 +115,7 @@ pub struct Front<J: Naming> {
 
 impl<J: Naming> Model for Front<J> {
     ghost use Rattle.std.specs.Prelude.{◌≡◌, List, length};
-    ghost use Rattle.mw_core.specs.mw_step_task.WindowTasks.{WindowTask};
+    ghost use Rattle.mw_pool_passes.specs.mw_step_task.WindowTasks.{WindowTask};
 
     ghost Value = { List WindowTask };
 
@@ -190,7 +190,7 @@ pub(crate) struct Roll<J: Naming> {
 
 impl<J: Naming> Model for Roll<J> {
     ghost use Rattle.std.specs.Prelude.{◌≡◌, List};
-    ghost use Rattle.mw_core.specs.mw_step_task.WindowTasks.{WindowTask};
+    ghost use Rattle.mw_pool_passes.specs.mw_step_task.WindowTasks.{WindowTask};
     ghost use Rattle.mw_pool.specs.Rolls.{book_head};
 
     ghost Value = { List WindowTask };

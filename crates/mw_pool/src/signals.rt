@@ -3,7 +3,7 @@
 ghost use Rattle.std.specs.Prelude.{◌≡◌, ◌%◌};
 ghost use Rattle.mw_pool.specs.Wakings.{settled_by, ended_by, killed_by};
 
-use mw_core::{Finish, Refusal, Started};
+use mw_pool_passes::{Finish, Refusal, Started};
 use std::array::from_fn;
 use std::sync::Condvar;
 

@@ -6,8 +6,8 @@ ghost use Rattle.mw_model.specs.Refusals.{ticket_of};
 ghost use Rattle.mw_model.specs.Stands.{StandsFor};
 ghost use Rattle.mw_pool.specs.Tickets.{IsAwaited};
 
-use mw_core::Core;
 use mw_model::Name;
+use mw_pool_passes::Core;
 
 /// The ticket of the name, if its entry is pending.
 pub(crate) fn awaited_ticket(core: &Core, name: Name) -> Option<u32>

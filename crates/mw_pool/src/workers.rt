@@ -4,7 +4,7 @@ ghost use Rattle.std.specs.Prelude.{◌≡◌, IfOk};
 
 use crate::board::Board;
 use crate::roll::Naming;
-use mw_core::task::{TaskRefused, TileDone, Work};
+use mw_pool_passes::task::{TaskRefused, TileDone, Work};
 use std::sync::Wait;
 
 /// What computes a task. It is called without the lock of the board, by many workers at once.

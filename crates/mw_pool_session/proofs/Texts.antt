@@ -18,7 +18,7 @@ use Rattle.mw_session_fetch.specs.mw_store.declared.fetched.FetchedValue.{Fetche
 use Rattle.mw_session_fetch.specs.mw_store.declared.fetched.FetchedValue.TheVariants as shown
 use Rattle.mw_session_fetch.specs.mw_store.Fetches.{ShowsSome, shown_value}
 use Rattle.mw_session_fetch.specs.Texts.{SaysFetched}
-use Rattle.mw_pool.specs.Passes.{AddsReceipt}
+use Rattle.mw_pool.specs.mw_pool_passes.Passes.{AddsReceipt}
 use Rattle.mw_pool.specs.Payloads.{TellsImage, TellsElement}
 use Rattle.mw_session_fetch.specs.mw_wire.Writes.{told_text}
 use Rattle.mw_pool_session.specs.Serving.{RequestServed, refused, received}

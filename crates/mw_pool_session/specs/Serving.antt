@@ -12,7 +12,7 @@ use Rattle.mw_model.specs.Lines.{Asked, AskLoad, AskElement, AskAlone, Begins}
 use Rattle.mw_model.specs.Replies.{refusal_text}
 use Rattle.mw_model.specs.Receipts.{IsTextOf, AreServed}
 use Rattle.mw_model.specs.Scripts.{Calls, MayFollow, end_text}
-use Rattle.mw_pool.specs.Passes.{AddsReceipt}
+use Rattle.mw_pool.specs.mw_pool_passes.Passes.{AddsReceipt}
 use Rattle.mw_pool.specs.Payloads.{TellsImage, TellsElement}
 use Rattle.mw_session_fetch.specs.mw_wire.Chains.{NoneQuits}
 use Rattle.mw_session_fetch.specs.mw_wire.Rooms.{EndsAt, LacksRoom}

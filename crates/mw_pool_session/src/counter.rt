@@ -73,4 +73,9 @@ impl<'b, R: Wait, J: Naming> Handler for BoardHandler<'b, R, J> {
             Request::Quit => Ok(()),
         }
     }
+
+    /// A board has no bound but memory.
+    fn has_room(&mut self, _pass: &Pass, _places: usize) -> bool {
+        true
+    }
 }

@@ -1,7 +1,7 @@
 //! Medians under squares of 3 x 3 and 5 x 5 offsets of rows that stand in a caller's array, written into the caller's rows: by the
 //! networks of `mw_rank_medians`, which read and write where the samples stand, so that no row is copied. The first and the last
 //! rows of a frame, where the square goes beyond it, are not made here. Columns at the sides are: some of them are copied as lines,
-//! with the greatest level beside the frame, and the squares along them are made by vectors too. `mw_c_strips` calls it, for what C
+//! with the greatest level beside the frame, and the squares along them are made by vectors too. `mw_c_lent` calls it, for what C
 //! calls.
 //!
 //! ```text

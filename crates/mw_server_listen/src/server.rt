@@ -1,6 +1,6 @@
 //! A server: from its port to its exit status.
 
-ghost use Rattle.std.specs.Prelude.{◌≡◌, ◌≤◌, IfOk, OnOk};
+ghost use Rattle.std.specs.Prelude.{◌⊎◌, ◌≡◌, ◌≤◌, IfOk, OnOk};
 ghost use Rattle.mw_grid.specs.Grids.{IsTileSide};
 ghost use Rattle.mw_server_listen.specs.Listening.{AnnouncesIf, Audited, IsOfSession, Listened, Told};
 
@@ -73,7 +73,7 @@ fn serve_all<
     roll: NewRoll,
 ) -> Result<(), ListenFault>
     requires named { roll ≡ J.book }
-    requires side { IsTileSide service.side }
+    requires side { (service.side ≡ 0) ⊎ IsTileSide service.side }
     ensures audited { IfOk result (λ _. Audited S.left service.sessions) }
     ensures announced { OnOk result (AnnouncesIf service.announce service.port (O.contents output.old.inner) (O.contents output.new.inner)) }
 {
@@ -118,7 +118,7 @@ pub fn listen_with<
     requires port { 1 ≤ service.port }
     requires workers { (1 ≤ service.workers) × (service.workers ≤ 64) }
     requires sessions { (1 ≤ service.sessions) × (service.sessions ≤ 64) }
-    requires side { IsTileSide service.side }
+    requires side { (service.side ≡ 0) ⊎ IsTileSide service.side }
     ensures audited { let old : Told = record { text = F.contents faults.old.inner; failed = faults.old.failed } in
         let new : Told = record { text = F.contents faults.new.inner; failed = faults.new.failed } in
         Listened S.left service.port service.sessions old new result }
@@ -154,7 +154,7 @@ pub fn listen<
     requires port { 1 ≤ service.port }
     requires workers { (1 ≤ service.workers) × (service.workers ≤ 64) }
     requires sessions { (1 ≤ service.sessions) × (service.sessions ≤ 64) }
-    requires side { IsTileSide service.side }
+    requires side { (service.side ≡ 0) ⊎ IsTileSide service.side }
     ensures audited { let old : Told = record { text = F.contents faults.old.inner; failed = faults.old.failed } in
         let new : Told = record { text = F.contents faults.new.inner; failed = faults.new.failed } in
         Listened IsOfSession service.port service.sessions old new result }

@@ -1,32 +1,44 @@
-//! What a service counts, and the wire by which it counts bytes.
+//! What a service counts.
 
-ghost use Rattle.std.specs.Io.{WritesAtMost};
-
+use std::alloc::{AllocError, Global};
 use std::io;
-use std::io::{ErrorKind, Read, Write};
-use std::net::TcpStream;
 use std::sync::atomic::{AtomicU64, Ordering};
 
-/// How many sessions began, how many of them ended, how many clients were turned away, and how many bytes were read of sessions'
-/// clients and written to them.
+/// Refusals have numbers below this.
+const NUMBERS: usize = 64;
+
+/// How many sessions began, how many of them ended, how many clients were turned away, how many requests were answered, how
+/// often each number of a refusal was, how many bytes were read of sessions' clients and written to them, and for how many
+/// nanoseconds sessions computed.
 #[derive(Drop)]
 pub(crate) struct Counts {
     pub begun: AtomicU64,
     pub ended: AtomicU64,
     pub turned_away: AtomicU64,
+    pub answered: AtomicU64,
+    pub refused: Vec<AtomicU64>,
     pub read: AtomicU64,
     pub written: AtomicU64,
+    pub computed: AtomicU64,
 }
 
 impl Counts {
-    pub fn new() -> Counts {
-        Counts {
+    /// Nothing is counted yet.
+    pub fn new(alloc: Global) -> Result<Counts, AllocError> {
+        let mut refused = Vec::with_capacity(alloc, NUMBERS)?;
+        for _ in 0..NUMBERS {
+            refused.push(AtomicU64::new(0))?;
+        }
+        Ok(Counts {
             begun: AtomicU64::new(0),
             ended: AtomicU64::new(0),
             turned_away: AtomicU64::new(0),
+            answered: AtomicU64::new(0),
+            refused,
             read: AtomicU64::new(0),
             written: AtomicU64::new(0),
-        }
+            computed: AtomicU64::new(0),
+        })
     }
 }
 
@@ -36,48 +48,8 @@ pub(crate) fn count(counter: &AtomicU64) {
 }
 
 /// Adds the bytes that a read or a write passed on.
-fn count_bytes(counter: &AtomicU64, passed: &io::Result<usize>) {
+pub(crate) fn count_bytes(counter: &AtomicU64, passed: &io::Result<usize>) {
     if let Ok(bytes) = passed {
         counter.fetch_add(*bytes as u64, Ordering::SeqCst);
-    }
-}
-
-/// Writes to a connection. A wait for room that was too long is tried once more: the system wakes who waits only where much
-/// room has come.
-fn write_patiently(stream: &TcpStream, buf: &[u8]) -> io::Result<usize>
-    ensures { WritesAtMost result buf.now }
-{
-    let mut stream = stream;
-    match stream.write(buf) {
-        Err(error) if error.kind() == ErrorKind::WouldBlock => stream.write(buf),
-        passed => passed,
-    }
-}
-
-/// A connection whose bytes are counted.
-#[derive(Clone, Copy)]
-pub(crate) struct Wire<'a> {
-    pub stream: &'a TcpStream,
-    pub counts: &'a Counts,
-}
-
-impl Read for Wire<'_> {
-    fn read(&mut self, buf: &mut [u8]) -> io::Result<usize> {
-        let mut stream = self.stream;
-        let passed = stream.read(buf);
-        count_bytes(&self.counts.read, &passed);
-        passed
-    }
-}
-
-impl Write for Wire<'_> {
-    fn write(&mut self, buf: &[u8]) -> io::Result<usize> {
-        let passed = write_patiently(self.stream, buf);
-        count_bytes(&self.counts.written, &passed);
-        passed
-    }
-
-    fn flush(&mut self) -> io::Result<()> {
-        Ok(())
     }
 }

@@ -1,20 +1,23 @@
 //! How clients come to their sessions: who accepts connections, who seats their clients, and who serves them.
 
 ghost use Rattle.std.specs.Prelude.{◌≡◌};
-ghost use Rattle.mw_grid.specs.Grids.{IsTileSide};
+ghost use Rattle.mw_batch.specs.Batches.{IsSideAsked};
 
-use crate::connection::serve_connection;
-use crate::counts::{Counts, Wire, count};
+use crate::connection::{Limits, serve_connection};
+use crate::counts::{Counts, count};
 use crate::fault::ServeFault;
-use crate::guests::{Guest, Guests};
+use crate::guests::{Guests, Seated};
 use crate::queue::Queue;
+use crate::replies::Replies;
 use crate::seats::Seats;
 use crate::service::Service;
 use crate::state::state_line;
+use crate::visit::{Incoming, Outgoing, Visit};
 use mw_batch::Crew;
 use mw_server_socket::wire::{Sink, Source, send};
 use mw_server_socket::{bound, finish, next_client, turn_away};
 use std::alloc::Global;
+use std::fs::File;
 use std::net::{Shutdown, TcpListener, TcpStream};
 use std::os::fd::OwnedFd;
 use std::sync::atomic::{AtomicBool, AtomicUsize, Ordering};
@@ -40,6 +43,7 @@ pub(crate) struct Door {
     pub queue: Option<Queue>,
     pub leaving: AtomicUsize,
     pub counts: Counts,
+    pub sizes: Option<File>,
 }
 
 impl Door {
@@ -49,6 +53,7 @@ impl Door {
         service: Service,
         listener: TcpListener,
         asked: Option<TcpListener>,
+        sizes: Option<File>,
     ) -> Option<Door> {
         let queue = match service.queue {
             Some(more) => {
@@ -65,7 +70,8 @@ impl Door {
             guests: Guests::new(alloc, service.sessions).ok()?,
             queue,
             leaving: AtomicUsize::new(0),
-            counts: Counts::new(),
+            counts: Counts::new(alloc).ok()?,
+            sizes,
         })
     }
 }
@@ -81,24 +87,27 @@ pub(crate) struct Bell {
 fn serve_guest<T: Threads + Wait + Clock + Sync>(
     crew: Crew<T>,
     service: Service,
-    guest: &Guest,
+    guest: &Seated,
     door: &Door,
 )
-    requires side { IsTileSide service.side }
+    requires side { IsSideAsked service.side }
 {
-    let stream = &**guest;
-    let wire = Wire {
-        stream,
-        counts: &door.counts,
-    };
+    let visit = Visit::new(guest, crew.rt, &door.counts, service.time);
     count(&door.counts.begun);
+    let limits = Limits {
+        side: service.side,
+        idle: service.idle,
+        memory: service.memory,
+    };
     let _served = serve_connection(
         crew,
-        stream,
-        &mut Source::new(wire),
-        wire,
-        service.idle,
-        service.side,
+        &visit,
+        &mut Source::new(Incoming { visit: &visit }),
+        Outgoing {
+            visit: &visit,
+            replies: Replies::new(),
+        },
+        limits,
     );
     count(&door.counts.ended);
 }
@@ -110,10 +119,10 @@ fn serve_stream<T: Threads + Wait + Clock + Sync>(
     stream: TcpStream,
     door: &Door,
 )
-    requires side { IsTileSide service.side }
+    requires side { IsSideAsked service.side }
 {
     let rt = crew.rt;
-    let Ok(guest) = Arc::new(crew.alloc, stream) else {
+    let Ok(guest) = Arc::new(crew.alloc, Seated::new(stream)) else {
         return;
     };
     let Ok(shared) = Arc::try_clone(&guest) else {
@@ -134,7 +143,7 @@ fn serve_seated<R: Threads + Wait + Clock + Sync>(
     stream: TcpStream,
     door: &Door,
 )
-    requires side { IsTileSide service.side }
+    requires side { IsSideAsked service.side }
 {
     let crew = Crew {
         alloc,
@@ -158,11 +167,11 @@ fn serve_apart<'h, E: 'h, R: Threads + Wait + Clock + Sync>(
     stream: TcpStream,
     door: &'h Door,
 )
-    requires side { IsTileSide service.side }
+    requires side { IsSideAsked service.side }
 {
     let started = scope.spawn(
         move || -> ()
-            requires { IsTileSide service.side }
+            requires { IsSideAsked service.side }
         { serve_seated(rt, alloc, service, stream, door) },
     );
     if let Err(SpawnError { value: serve_here }) = started {
@@ -178,7 +187,7 @@ fn accept_seated<'h, E: 'h, R: Threads + Wait + Clock + Sync>(
     service: Service,
     door: &'h Door,
 )
-    requires side { IsTileSide service.side }
+    requires side { IsSideAsked service.side }
 {
     for _ in 0..u64::MAX {
         door.seats.take(rt);
@@ -247,7 +256,7 @@ fn seat_queued<'h, E: 'h, R: Threads + Wait + Clock + Sync>(
     door: &'h Door,
     queue: &Queue,
 )
-    requires side { IsTileSide service.side }
+    requires side { IsSideAsked service.side }
 {
     for _ in 0..u64::MAX {
         door.seats.take(rt);
@@ -267,7 +276,7 @@ pub(crate) fn accept_all<'h, E: 'h, R: Threads + Wait + Clock + Sync>(
     service: Service,
     door: &'h Door,
 )
-    requires side { IsTileSide service.side }
+    requires side { IsSideAsked service.side }
 {
     match &door.queue {
         Some(queue) => accept_queued(scope, rt, door, queue),
@@ -280,7 +289,7 @@ fn tell_state<R: Clock>(rt: &R, alloc: Global, service: Service, stream: &TcpStr
     if !bound(stream, Some(STATE_WAIT)) {
         return;
     }
-    let Some(line) = state_line(alloc, &door.counts, service.version) else {
+    let Some(line) = state_line(alloc, &door.counts, &door.sizes, service.version) else {
         return;
     };
     let _told = send(&mut Sink::new(stream), line.as_bytes());
@@ -305,14 +314,14 @@ fn start_seating<'h, E: 'h, R: Threads + Wait + Clock + Sync>(
     service: Service,
     door: &'h Door,
 ) -> Result<(), ServeFault>
-    requires side { IsTileSide service.side }
+    requires side { IsSideAsked service.side }
 {
     let Some(queue) = &door.queue else {
         return Ok(());
     };
     let started = scope.spawn(
         move || -> ()
-            requires { IsTileSide service.side }
+            requires { IsSideAsked service.side }
         { seat_queued(scope, rt, alloc, service, door, queue) },
     );
     if started.is_err() {
@@ -347,7 +356,7 @@ pub(crate) fn start_beside<'h, E: 'h, R: Threads + Wait + Clock + Sync>(
     service: Service,
     door: &'h Door,
 ) -> Result<(), ServeFault>
-    requires side { IsTileSide service.side }
+    requires side { IsSideAsked service.side }
 {
     start_seating(scope, rt, alloc, service, door)?;
     start_telling(scope, rt, alloc, service, door)
@@ -361,11 +370,11 @@ pub(crate) fn start_accepting<'h, E: 'h, R: Threads + Wait + Clock + Sync>(
     service: Service,
     door: &'h Door,
 ) -> Result<(), ServeFault>
-    requires side { IsTileSide service.side }
+    requires side { IsSideAsked service.side }
 {
     let started = scope.spawn(
         move || -> ()
-            requires { IsTileSide service.side }
+            requires { IsSideAsked service.side }
         { accept_all(scope, rt, alloc, service, door) },
     );
     if started.is_err() {
@@ -392,7 +401,7 @@ pub(crate) fn close<R: Wait>(rt: &R, door: &Door, bell: Bell) {
     }
 }
 
-/// Waits until the sessions have ended, but no longer than the seconds of grace, and closes the connections of those that are left.
+/// Waits until the sessions have ended, but no longer than the seconds of grace, and ends those that are left.
 pub(crate) fn end_sessions<R: Wait + Clock>(rt: &R, door: &Door, grace: u32) {
     door.seats.wait_for_all(rt, grace);
     door.guests.cut(rt);

@@ -2,10 +2,38 @@
 
 use std::alloc::{AllocError, Global};
 use std::net::{Shutdown, TcpStream};
+use std::sync::atomic::{AtomicBool, Ordering};
 use std::sync::{Arc, Mutex, Wait};
 
+/// A connection, and whether its session is over, whatever its client sends.
+#[derive(Drop)]
+pub(crate) struct Seated {
+    pub stream: TcpStream,
+    is_over: AtomicBool,
+}
+
 /// A connection that its session shares with the service.
-pub(crate) type Guest = Arc<TcpStream, Global>;
+pub(crate) type Guest = Arc<Seated, Global>;
+
+impl Seated {
+    /// A connection whose session goes on.
+    pub fn new(stream: TcpStream) -> Seated {
+        Seated {
+            stream,
+            is_over: AtomicBool::new(false),
+        }
+    }
+
+    /// Whether its session is over.
+    pub fn is_over(&self) -> bool {
+        self.is_over.load(Ordering::SeqCst)
+    }
+
+    /// Ends its session, which looks at that before each task, and before it reads.
+    pub fn end(&self) {
+        self.is_over.store(true, Ordering::SeqCst);
+    }
+}
 
 /// The connections by their places, and whether they were cut.
 #[derive(Drop)]
@@ -55,13 +83,14 @@ impl Guests {
         }
     }
 
-    /// Closes both ways of each connection, and takes in none from now on. A session finds then that its wire has ended.
+    /// Ends each session and closes both ways of its connection, and takes in none from now on.
     pub fn cut<R: Wait>(&self, rt: &R) {
         let mut table = self.table.lock(rt);
         table.is_cut = true;
         for place in table.guests.iter() {
             if let Some(guest) = place {
-                let _closed = guest.shutdown(Shutdown::Both);
+                guest.end();
+                let _closed = guest.stream.shutdown(Shutdown::Both);
             }
         }
     }

@@ -12,13 +12,18 @@ mod door;
 mod fault;
 mod guests;
 mod queue;
+mod replies;
+mod resident;
 mod seats;
 mod service;
 mod state;
+mod visit;
+mod visitor;
 
-pub use connection::{serve_connection, serve_one};
+pub use connection::{Limits, serve_connection, serve_one};
 pub use fault::ServeFault;
 pub use service::{Service, serve};
+pub use visitor::Visitor;
 
 // What lower crates offer, for the crates above.
 pub use mw_batch::{Crew, batch, strict_batch};

@@ -2,18 +2,21 @@
 
 ghost use Rattle.std.specs.Prelude.{OnOk, IfOk};
 ghost use Rattle.std.specs.Io.KnownBytes.{Appends};
-ghost use Rattle.mw_grid.specs.Grids.{IsTileSide};
+ghost use Rattle.mw_batch.specs.Batches.{IsSideAsked};
 ghost use Rattle.mw_server_socket.specs.Announcements.{announcement};
 ghost use Rattle.mw_server_serve.specs.Services.{Announces, IsPortFor, Offered, Told};
 
 use crate::connection::HELD;
 use crate::door::{Bell, Door, accept_all, close, end_sessions, start_accepting, start_beside};
 use crate::fault::ServeFault;
+use crate::resident::open_sizes;
 use mw_server_socket::wire::{Sink, send};
 use mw_server_socket::{PortFault, announce};
 use std::alloc::Global;
+use std::fs::File;
 use std::io::{BufWriter, ErrorKind, Read, Write};
 use std::net::{Ipv4Addr, Net, TcpListener, TcpStream};
+use std::rt::Files;
 use std::sync::Wait;
 use std::thread::Threads;
 use std::time::Clock;
@@ -21,8 +24,9 @@ use std::{io, thread};
 
 /// The port on 127.0.0.1, 0 for one that the system picks; how many workers compute each session, how many sessions are
 /// served at once, the side of the tiles, and how many seconds a session waits for its client. Then how many more clients may
-/// wait for a session, where that is bounded; how many seconds sessions may go on once the service is to end; at which port it
-/// tells its state, if at any; and its version.
+/// wait for a session, where that is bounded; how many seconds sessions may go on once the service is to end; how many seconds a
+/// session may compute, where that is bounded; at which port it tells its state, if at any; how many MiB one session may take,
+/// where that is bounded; and its version.
 #[derive(Clone, Copy, Debug, PartialEq, Eq)]
 pub struct Service {
     pub port: u16,
@@ -32,7 +36,9 @@ pub struct Service {
     pub idle: Option<u32>,
     pub queue: Option<u32>,
     pub grace: u32,
+    pub time: Option<u32>,
     pub status: Option<u16>,
+    pub memory: Option<u32>,
     pub version: &'static str,
 }
 
@@ -129,8 +135,9 @@ fn can_accept(listener: &TcpListener) -> Result<(), ServeFault> {
     }
 }
 
-/// Makes all that a service needs before it tells its port.
-fn prepare_door(
+/// Makes all that a service needs before it tells its port. How much memory it has is looked up where its state can be asked for.
+fn prepare_door<R: Files<File = File>>(
+    rt: &R,
     alloc: Global,
     service: Service,
     listener: TcpListener,
@@ -143,8 +150,12 @@ fn prepare_door(
             None => None,
         },
     };
+    let sizes = match &asked {
+        Some(_) => open_sizes(rt),
+        None => None,
+    };
     can_accept(&listener)?;
-    match Door::new(alloc, service, listener, asked) {
+    match Door::new(alloc, service, listener, asked, sizes) {
         Some(door) => Ok(Ready { door, bell }),
         None => Err(ServeFault::Memory),
     }
@@ -159,7 +170,7 @@ fn serve_until<R: Threads + Wait + Clock + Sync, I: Read + Drop>(
     ready: Ready,
     until: Option<I>,
 ) -> Result<(), ServeFault>
-    requires side { IsTileSide service.side }
+    requires side { IsSideAsked service.side }
 {
     let Ready { door, bell } = ready;
     let door = &door;
@@ -167,7 +178,7 @@ fn serve_until<R: Threads + Wait + Clock + Sync, I: Read + Drop>(
         thread::scope_env(),
         rt,
         |scope| -> Result<(), ServeFault>
-            requires { IsTileSide service.side }
+            requires { IsSideAsked service.side }
         {
             let mut started = start_beside(scope, rt, alloc, service, door);
             if started.is_ok() {
@@ -189,7 +200,12 @@ fn serve_until<R: Threads + Wait + Clock + Sync, I: Read + Drop>(
 
 /// Tells the port, and serves.
 fn serve_at<
-    R: Net<Listener = TcpListener, Stream = TcpStream> + Threads + Wait + Clock + Sync,
+    R: Net<Listener = TcpListener, Stream = TcpStream>
+        + Files<File = File>
+        + Threads
+        + Wait
+        + Clock
+        + Sync,
     I: Read + Drop,
     O: Write,
 >(
@@ -200,12 +216,12 @@ fn serve_at<
     until: Option<I>,
     output: &mut Sink<O>,
 ) -> Result<(), ServeFault>
-    requires side { IsTileSide service.side }
+    requires side { IsSideAsked service.side }
     ensures { OnOk result (Appends (O.contents output.old.inner) (O.contents output.new.inner) (announcement place.port)) }
 {
     let Place { listener, port } = place;
     let asked = listen_for_state(rt, service.status)?;
-    let ready = prepare_door(alloc, service, listener, asked)?;
+    let ready = prepare_door(rt, alloc, service, listener, asked)?;
     if announce(output, port).is_err() {
         return Err(ServeFault::Output);
     }
@@ -214,7 +230,12 @@ fn serve_at<
 
 /// Listens, tells the port, and serves.
 fn serve_all<
-    R: Net<Listener = TcpListener, Stream = TcpStream> + Threads + Wait + Clock + Sync,
+    R: Net<Listener = TcpListener, Stream = TcpStream>
+        + Files<File = File>
+        + Threads
+        + Wait
+        + Clock
+        + Sync,
     I: Read + Drop,
     O: Write,
 >(
@@ -224,7 +245,7 @@ fn serve_all<
     until: Option<I>,
     output: &mut Sink<O>,
 ) -> Result<(), ServeFault>
-    requires side { IsTileSide service.side }
+    requires side { IsSideAsked service.side }
     ensures { OnOk result (Announces service.port (O.contents output.old.inner) (O.contents output.new.inner)) }
 {
     if BufWriter::with_capacity(alloc, HELD, io::sink()).is_err() {
@@ -241,7 +262,12 @@ fn serve_all<
 /// `error: thread`, `error: socket`, `error: descriptors`, or the port and why it cannot be listened on. Sessions that have not
 /// ended when the seconds of grace are over find that their wires have. A connection that fails ends alone, and is no fault.
 pub fn serve<
-    R: Net<Listener = TcpListener, Stream = TcpStream> + Threads + Wait + Clock + Sync,
+    R: Net<Listener = TcpListener, Stream = TcpStream>
+        + Files<File = File>
+        + Threads
+        + Wait
+        + Clock
+        + Sync,
     I: Read + Drop,
     O: Write,
     F: Write,
@@ -253,7 +279,7 @@ pub fn serve<
     output: &mut Sink<O>,
     faults: &mut Sink<F>,
 ) -> u8
-    requires side { IsTileSide service.side }
+    requires side { IsSideAsked service.side }
     ensures { let old : Told = record { text = F.contents faults.old.inner; failed = faults.old.failed } in
         let new : Told = record { text = F.contents faults.new.inner; failed = faults.new.failed } in
         Offered service.port (O.contents output.old.inner) (O.contents output.new.inner) old new result }

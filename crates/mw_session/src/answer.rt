@@ -9,18 +9,18 @@ ghost use Rattle.mw_session_fetch.specs.mw_session_intake.Intake.{asked};
 ghost use Rattle.mw_session.specs.Answering.{WritesAnswer};
 ghost use Rattle.mw_session_fetch.specs.mw_wire.Writes.{Wrote};
 
+use crate::budget::{Budget, Means};
 use crate::tally::Tally;
-use mw_core_waves::payloads::{read_element, read_image};
-use mw_core_waves::{Core, Crew, Pick, run_all_work};
+use crate::{costs, within};
+use mw_core_waves::{Core, Pick, run_all_work};
 use mw_model::{Name, NoMemory, Op, Request};
 use mw_session_fetch::wire::{Handler, SessionFault, Sink};
 use mw_session_fetch::{note_fetched, note_told};
-use std::alloc::Global;
 use std::io::Write;
 use std::thread::Threads;
 
-fn load<W: Write>(
-    alloc: Global,
+fn load<W: Write, T: Threads + Sync>(
+    means: Means<T>,
     sink: &mut Sink<W>,
     core: &mut Core,
     refused: &mut bool,
@@ -30,14 +30,17 @@ fn load<W: Write>(
     ensures answered { WritesAnswer core.old (AskLoad name payload.items) core.new refused.old refused.new (W.contents sink.old.inner) (W.contents sink.new.inner) result }
     ensures remembers { RemembersFailure sink.old.failed sink.new.failed result }
 {
-    let image = read_image(alloc, payload);
-    let reply = core.load(name, image);
+    let (is_raw, bytes) = (costs::is_raw(&payload), payload.capacity());
+    let image = within::image_of(means.crew.alloc, means.budget, core, payload);
+    let cost = within::image_cost(&image, is_raw, bytes);
+    let reply = within::load(means.budget, core, name, image);
+    within::count(means.budget, reply, cost);
     note_told(sink, refused, reply)
 }
 
 /// Of a name, with the origin in this column and row of the bitmap.
-fn element<W: Write>(
-    alloc: Global,
+fn element<W: Write, T: Threads + Sync>(
+    means: Means<T>,
     sink: &mut Sink<W>,
     core: &mut Core,
     refused: &mut bool,
@@ -48,12 +51,15 @@ fn element<W: Write>(
     ensures remembers { RemembersFailure sink.old.failed sink.new.failed result }
 {
     let (name, ox, oy) = at;
-    let element = read_element(alloc, payload, ox, oy);
-    let reply = core.element(name, element);
+    let element = within::element_of(means.crew.alloc, means.budget, core, payload, (ox, oy));
+    let cost = within::element_cost(&element);
+    let reply = within::element(means.budget, core, name, element);
+    within::count(means.budget, reply, cost);
     note_told(sink, refused, reply)
 }
 
 fn run<W: Write>(
+    budget: &Budget,
     sink: &mut Sink<W>,
     core: &mut Core,
     refused: &mut bool,
@@ -63,11 +69,12 @@ fn run<W: Write>(
     ensures answered { WritesAnswer core.old (AskAlone (Ask.Run name op)) core.new refused.old refused.new (W.contents sink.old.inner) (W.contents sink.new.inner) result }
     ensures remembers { RemembersFailure sink.old.failed sink.new.failed result }
 {
-    let reply = core.run(name, op);
+    let reply = within::run(budget, core, name, op);
     note_told(sink, refused, reply)
 }
 
 fn cancel<W: Write>(
+    budget: &Budget,
     sink: &mut Sink<W>,
     core: &mut Core,
     refused: &mut bool,
@@ -76,11 +83,12 @@ fn cancel<W: Write>(
     ensures answered { WritesAnswer core.old (AskAlone (Ask.Cancel name)) core.new refused.old refused.new (W.contents sink.old.inner) (W.contents sink.new.inner) result }
     ensures remembers { RemembersFailure sink.old.failed sink.new.failed result }
 {
-    let reply = core.cancel(name);
+    let reply = within::cancel(budget, core, name);
     note_told(sink, refused, reply)
 }
 
 fn release<W: Write>(
+    budget: &Budget,
     sink: &mut Sink<W>,
     core: &mut Core,
     refused: &mut bool,
@@ -89,13 +97,13 @@ fn release<W: Write>(
     ensures answered { WritesAnswer core.old (AskAlone (Ask.Release name)) core.new refused.old refused.new (W.contents sink.old.inner) (W.contents sink.new.inner) result }
     ensures remembers { RemembersFailure sink.old.failed sink.new.failed result }
 {
-    let reply = core.release(name);
+    let reply = within::release(budget, core, name);
     note_told(sink, refused, reply)
 }
 
 /// STATUS, and WAIT, which has nothing left to wait for.
 fn status<W: Write, P: Pick, T: Threads + Sync>(
-    crew: Crew<T>,
+    means: Means<T>,
     sink: &mut Sink<W>,
     core: &mut Core,
     refused: &mut bool,
@@ -106,13 +114,13 @@ fn status<W: Write, P: Pick, T: Threads + Sync>(
     ensures wait { WritesAnswer core.old (AskAlone (Ask.Wait name)) core.new refused.old refused.new (W.contents sink.old.inner) (W.contents sink.new.inner) result }
     ensures remembers { RemembersFailure sink.old.failed sink.new.failed result }
 {
-    run_all_work(crew, core, pick);
-    let reply = core.status(name);
+    run_all_work(means.crew, core, pick);
+    let reply = within::status(means.budget, core, name);
     note_told(sink, refused, reply)
 }
 
 fn fetch<W: Write, P: Pick, T: Threads + Sync>(
-    crew: Crew<T>,
+    means: Means<T>,
     sink: &mut Sink<W>,
     core: &mut Core,
     refused: &mut bool,
@@ -122,16 +130,16 @@ fn fetch<W: Write, P: Pick, T: Threads + Sync>(
     ensures answered { WritesAnswer core.old (AskAlone (Ask.Fetch name)) core.new refused.old refused.new (W.contents sink.old.inner) (W.contents sink.new.inner) result }
     ensures remembers { RemembersFailure sink.old.failed sink.new.failed result }
 {
-    run_all_work(crew, core, pick);
-    match core.fetch(name) {
-        Ok(fetched) => note_fetched(crew.alloc, sink, refused, fetched),
+    run_all_work(means.crew, core, pick);
+    match within::fetch(means.budget, core, name) {
+        Ok(fetched) => note_fetched(means.crew.alloc, sink, refused, fetched),
         Err(NoMemory) => note_told(sink, refused, Err(NoMemory)),
     }
 }
 
 /// Answers one request, which is not QUIT, and sets `refused` where that is by a refusal.
 fn answer_one<W: Write, P: Pick, T: Threads + Sync>(
-    crew: Crew<T>,
+    means: Means<T>,
     sink: &mut Sink<W>,
     core: &mut Core,
     refused: &mut bool,
@@ -143,28 +151,28 @@ fn answer_one<W: Write, P: Pick, T: Threads + Sync>(
     ensures remembers { RemembersFailure sink.old.failed sink.new.failed result }
 {
     match request {
-        Request::Load(name, payload) => load(crew.alloc, sink, core, refused, name, payload),
+        Request::Load(name, payload) => load(means, sink, core, refused, name, payload),
         Request::Element(name, ox, oy, payload) => {
-            element(crew.alloc, sink, core, refused, (name, ox, oy), &payload)
+            element(means, sink, core, refused, (name, ox, oy), &payload)
         }
-        Request::Run(name, op) => run(sink, core, refused, name, op),
-        Request::Cancel(name) => cancel(sink, core, refused, name),
-        Request::Release(name) => release(sink, core, refused, name),
-        Request::Status(name) => status(crew, sink, core, refused, pick, name),
-        Request::Wait(name) => status(crew, sink, core, refused, pick, name),
-        Request::Fetch(name) => fetch(crew, sink, core, refused, pick, name),
+        Request::Run(name, op) => run(means.budget, sink, core, refused, name, op),
+        Request::Cancel(name) => cancel(means.budget, sink, core, refused, name),
+        Request::Release(name) => release(means.budget, sink, core, refused, name),
+        Request::Status(name) => status(means, sink, core, refused, pick, name),
+        Request::Wait(name) => status(means, sink, core, refused, pick, name),
+        Request::Fetch(name) => fetch(means, sink, core, refused, pick, name),
         Request::Quit => Ok(()),
     }
 }
 
 /// Answers from a core, whose work is run by a crew in the order of the picks.
 #[derive(Drop)]
-pub(crate) struct ScriptHandler<'r, 'p, P, T> {
-    pub crew: Crew<'r, T>,
+pub(crate) struct ScriptHandler<'r, 'b, 'p, P, T> {
+    pub means: Means<'r, 'b, T>,
     pub pick: &'p mut P,
 }
 
-impl<P: Pick, T: Threads + Sync> Handler for ScriptHandler<'_, '_, P, T> {
+impl<P: Pick, T: Threads + Sync> Handler for ScriptHandler<'_, '_, '_, P, T> {
     ghost use Rattle.std.specs.Thread.{IsSync};
     ghost use Rattle.mw_session.specs.Answering.{ScriptAnswer};
 
@@ -181,18 +189,22 @@ impl<P: Pick, T: Threads + Sync> Handler for ScriptHandler<'_, '_, P, T> {
         request: Request,
     ) -> Result<(), SessionFault> {
         let mut refused = false;
-        answer_one(self.crew, sink, core, &mut refused, self.pick, request)
+        answer_one(self.means, sink, core, &mut refused, self.pick, request)
+    }
+
+    fn has_room(&mut self, core: &Core, places: usize) -> bool {
+        self.means.budget.allows_for_a_while(core, places as u64)
     }
 }
 
 /// Answers as a clerk does, and keeps the tally.
 #[derive(Drop)]
-pub(crate) struct Teller<'r, 'p, P, T> {
-    pub crew: Crew<'r, T>,
+pub(crate) struct Teller<'r, 'b, 'p, P, T> {
+    pub means: Means<'r, 'b, T>,
     pub pick: &'p mut P,
 }
 
-impl<P: Pick, T: Threads + Sync> Handler for Teller<'_, '_, P, T> {
+impl<P: Pick, T: Threads + Sync> Handler for Teller<'_, '_, '_, P, T> {
     ghost use Rattle.std.specs.Thread.{IsSync};
     ghost use Rattle.mw_session.specs.Tallies.{Tallied};
 
@@ -210,12 +222,18 @@ impl<P: Pick, T: Threads + Sync> Handler for Teller<'_, '_, P, T> {
     ) -> Result<(), SessionFault> {
         tally.line = tally.line.saturating_add(1);
         answer_one(
-            self.crew,
+            self.means,
             sink,
             &mut tally.core,
             &mut tally.refused,
             self.pick,
             request,
         )
+    }
+
+    fn has_room(&mut self, tally: &Tally, places: usize) -> bool {
+        self.means
+            .budget
+            .allows_for_a_while(&tally.core, places as u64)
     }
 }

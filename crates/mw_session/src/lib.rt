@@ -8,9 +8,12 @@
 #![tactic(auto)]
 
 mod answer;
+mod budget;
+mod costs;
 mod laws;
 mod script;
 mod tally;
+mod within;
 
 pub use laws::{finished_is_script, stopped_is_broken};
 pub use mw_core_waves::{Core, Crew, Pick};

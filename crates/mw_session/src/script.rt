@@ -8,6 +8,7 @@ ghost use Rattle.mw_session.specs.Runs.{SessionRan};
 ghost use Rattle.mw_session.specs.Tallies.{IsCounted};
 
 use crate::answer::{ScriptHandler, Teller};
+use crate::budget::{Budget, Means};
 use crate::tally::Tally;
 use mw_core_waves::{Core, Crew, Pick};
 use mw_model::End;
@@ -35,12 +36,18 @@ pub fn run_script<R: Read, W: Write, P: Pick, T: Threads + Sync>(
         → SessionRan m core.old core.new (R.remaining source.old.inner) (R.remaining source.new.inner) (W.contents sink.old.inner) (W.contents sink.new.inner) result }
     ensures failures { TellsFailures source.new.failed source.new.reads sink.new.failed result }
 {
-    let mut clerk = ScriptHandler { crew, pick };
+    let budget = Budget::new(None);
+    let means = Means {
+        crew,
+        budget: &budget,
+    };
+    let mut clerk = ScriptHandler { means, pick };
     run_session(crew.alloc, source, sink, &mut clerk, core)
 }
 
 /// Serves a script as `run_script` does. Behind an end the tally has the number of the line behind what was answered, of the
-/// lines of requests, and whether a reply was a refusal.
+/// lines of requests, and whether a reply was a refusal. What would take more memory than the tally says is refused as where there
+/// is none.
 pub fn run_counted<R: Read, W: Write, P: Pick, T: Threads + Sync>(
     crew: Crew<T>,
     source: &mut Source<R>,
@@ -58,6 +65,11 @@ pub fn run_counted<R: Read, W: Write, P: Pick, T: Threads + Sync>(
         → (s : SessionRan m tally.old.core tally.new.core (R.remaining source.old.inner) (R.remaining source.new.inner) (W.contents sink.old.inner) (W.contents sink.new.inner) result) × IsCounted result s tally.new }
     ensures failures { TellsFailures source.new.failed source.new.reads sink.new.failed result }
 {
-    let mut teller = Teller { crew, pick };
+    let budget = Budget::new(tally.memory);
+    let means = Means {
+        crew,
+        budget: &budget,
+    };
+    let mut teller = Teller { means, pick };
     run_session(crew.alloc, source, sink, &mut teller, tally)
 }

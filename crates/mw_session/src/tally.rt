@@ -5,12 +5,13 @@ ghost use Rattle.std.specs.Prelude.{◌≡◌, false};
 use mw_core_waves::Core;
 
 /// A core, the number of the line in which the next request stands, of the lines of requests, and whether a reply was a
-/// refusal.
+/// refusal; and how many MiB the core may take, where that is bounded.
 #[derive(Drop)]
 pub struct Tally {
     pub core: Core,
     pub line: u64,
     pub refused: bool,
+    pub memory: Option<u32>,
 }
 
 impl Tally {
@@ -20,10 +21,20 @@ impl Tally {
         ensures first { result.line ≡ 1 }
         ensures clear { result.refused ≡ false }
     {
+        Tally::within(core, None)
+    }
+
+    /// A core that has answered nothing yet, and may take so many MiB.
+    pub fn within(core: Core, memory: Option<u32>) -> Tally
+        ensures core { result.core ≡ core }
+        ensures first { result.line ≡ 1 }
+        ensures clear { result.refused ≡ false }
+    {
         Tally {
             core,
             line: 1,
             refused: false,
+            memory,
         }
     }
 }

@@ -7,4 +7,3 @@ mod Fields
 mod LineLaws
 mod Misses
 mod SaidLines
-mod Splits

@@ -1,4 +1,3 @@
 pub mod Reading
-pub mod Words
 pub mod Cut
 pub mod Intake

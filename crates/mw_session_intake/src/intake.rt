@@ -84,6 +84,23 @@ impl Intake {
         }
     }
 
+    /// For how many bytes a payload gets places where this piece is fed: 0 where it has them, and where none is gathered.
+    pub fn growth(&self, piece: &[u8]) -> usize
+        ensures { 0 < result → self.now.spare < length piece.now }
+    {
+        match self.wanted {
+            None => 0,
+            Some((_, len)) => {
+                let missing = len as usize - self.payload.len();
+                let come = self.payload.len() + missing.min(piece.len());
+                if come <= self.payload.capacity() {
+                    return 0;
+                }
+                places(come, len as usize)
+            }
+        }
+    }
+
     /// How many bytes of the piece to feed next, so that no byte of a payload is copied twice: what the payload that is
     /// gathered misses; else the piece's first line with its LF, or 202 bytes of it, since such a line is refused.
     pub fn portion(&self, piece: &[u8]) -> usize

@@ -13,7 +13,6 @@ mod cut;
 mod intake;
 mod laws;
 mod line;
-mod words;
 
 pub use intake::Intake;
 pub use laws::{front_stays, lines_say_one_thing, one_front_stands, one_reading};

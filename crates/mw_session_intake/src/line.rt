@@ -4,8 +4,8 @@ ghost use Rattle.std.specs.Prelude.{◌≡◌, min};
 ghost use Rattle.std.specs.List.{position_or_len};
 ghost use Rattle.mw_session_intake.specs.Reading.{one_name, two_names, three_names, name_and_number, two_names_and_number, name_and_three_numbers, window_op, op_with, run_in, ask_with, head_with, head_of, is_line_end};
 
-use crate::words::LineWords;
 use mw_model::{Ask, Awaited, FlatOp, GranOp, Head, Name, Op};
+use mw_session_words::LineWords;
 
 /// The greatest length of a payload, in bytes.
 pub const PAYLOAD_LIMIT: u32 = 134_217_728;

@@ -38,4 +38,8 @@ pub trait Handler {
         requires open_still { asked request ≢ AskAlone Ask.Quit }
         ensures answered { (text : List ℕ) × Answer kept.old (asked request) text kept.new × Wrote (W.contents sink.old.inner) (W.contents sink.new.inner) text result }
         ensures remembers { RemembersFailure sink.old.failed sink.new.failed result };
+
+    /// Whether a payload that is gathered may have so many places. Any answer is right: where it is no, the session ends as
+    /// where memory is refused.
+    fn has_room(&mut self, kept: &Self::Kept, places: usize) -> bool;
 }

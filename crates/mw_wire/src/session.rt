@@ -1,10 +1,10 @@
 //! A whole session, from a reader to a writer.
 
-ghost use Rattle.std.specs.Prelude.{◌≡◌, ◌≢◌, ◌<◌, ◌↔◌, [], ◌++◌, length, ℕ, List, Option, None, IfOk, Ok, IsTrue, false};
+ghost use Rattle.std.specs.Prelude.{◌≡◌, ◌≢◌, ◌<◌, ◌↔◌, [], ◌++◌, length, ℕ, List, Option, None, IfOk, OnErr, OnOk, Ok, IsTrue, false};
 ghost use Rattle.std.specs.Io.KnownBytes.{Appends};
 ghost use Rattle.mw_model.specs.declared.requests.Ask.TheVariants as Ask;
 ghost use Rattle.mw_model.specs.Lines.{AskAlone, Partial};
-ghost use Rattle.mw_session_intake.specs.Intake.{HasNoWholeLine, IsTidy, asked};
+ghost use Rattle.mw_session_intake.specs.Intake.{HasNoWholeLine, IsPortion, IsTidy, asked};
 ghost use Rattle.mw_session_intake.specs.Reading.{front};
 ghost use Rattle.mw_wire.specs.Failures.{IsUnread, RemembersFailure, TellsFailures};
 ghost use Rattle.mw_wire.specs.Writes.{EndsBy};
@@ -59,6 +59,26 @@ fn drain<W: Write, D: Handler>(
     }
 }
 
+/// Feeds a portion, where the desk has room for the places that a payload gets for it. Want of memory, or of that room, comes
+/// only where it has more bytes than there are places for.
+fn take_in<D: Handler>(
+    intake: &mut Intake,
+    desk: &mut D,
+    kept: &D::Kept,
+    portion: &[u8],
+) -> Result<(), NoMemory>
+    ensures ok { OnOk result (intake.new.bytes ≡ intake.old.bytes ++ portion.now) }
+    ensures err { OnErr result (intake.new.bytes ≡ intake.old.bytes) }
+    ensures still { OnErr result (intake.new.spare < length portion.now) }
+    ensures tidy { OnOk result (HasNoWholeLine intake.old → front intake.old.bytes ≡ Partial → IsPortion intake.old portion.now → IsTidy intake.new) }
+{
+    let places = intake.growth(portion);
+    if places > 0 && !desk.has_room(kept, places) {
+        return Err(NoMemory);
+    }
+    intake.feed(portion)
+}
+
 /// Serves a piece of the input: feeds it by portions, so that no byte of a payload is copied twice, and answers the
 /// requests that wait after each. Where the session ends, what stands behind is not fed. It ends by want of memory only where
 /// the next portion has more bytes than there are places for.
@@ -83,7 +103,7 @@ fn serve_piece<W: Write, D: Handler>(
         let (_, rest) = piece.split_at(at);
         let n = intake.portion(rest);
         let (portion, _) = rest.split_at(n);
-        match intake.feed(portion) {
+        match take_in(intake, desk, kept, portion) {
             Err(NoMemory) => return end_within(sink, Code::Memory),
             Ok(()) => {}
         }

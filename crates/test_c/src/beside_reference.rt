@@ -4,13 +4,13 @@ use crate::called::Called;
 use crate::given::{
     Call, Figure, Job, Sort, Way, first_call, is_set, with_element, with_elements, with_job,
 };
+use crate::images::noise;
 use crate::made::{made_is, volumes_are};
 use crate::reference_ways::{volumes, wanted};
 use mw_model::Kind;
 use mw_reference::ReferenceImage;
 use std::alloc::Global;
 use std::process::Abort;
-use test_images::noise;
 
 /// The sides of images.
 const FRAMES: [(u32, u32); 4] = [(1, 40), (40, 1), (17, 9), (1, 1)];
@@ -51,10 +51,13 @@ const ROWS: [Job; 5] = [(0, 0), (1, 0), (4, 0), (7, 1), (7, 3)];
 const LEVELS: [Job; 6] = [(0, 0), (0, 1), (0, 100), (0, 200), (0, 4095), (0, 65535)];
 
 /// Numbers of levels of skeletons.
-const COUNTS: [Job; 3] = [(0, 1), (0, 2), (0, 5)];
+const COUNTS: [Job; 4] = [(0, 1), (0, 2), (0, 5), (0, 254)];
+
+/// Numbers of levels of marks.
+const MARKS: [Job; 3] = [(0, 1), (0, 2), (0, 5)];
 
 /// Numbers of sizes of spectra.
-const SIZES: [Job; 2] = [(0, 1), (0, 3)];
+const SIZES: [Job; 3] = [(0, 1), (0, 3), (0, 32)];
 
 fn jobs_of(way: Way) -> &'static [Job] {
     match way {
@@ -62,7 +65,8 @@ fn jobs_of(way: Way) -> &'static [Job] {
         Way::Rows => &ROWS,
         Way::Threshold => &LEVELS,
         Way::Spectrum => &SIZES,
-        _ => &COUNTS,
+        Way::Skeleton => &COUNTS,
+        _ => &MARKS,
     }
 }
 
@@ -254,7 +258,7 @@ fn changed(
     maxval: u16,
     samples: &[u16],
 ) -> ReferenceImage {
-    match test_images::image(alloc, kind, image.width(), image.height(), maxval, samples) {
+    match crate::images::image(alloc, kind, image.width(), image.height(), maxval, samples) {
         Ok(image) => image,
         Err(_fault) => panic!(rt; "an image"),
     }

@@ -2,6 +2,7 @@
 
 ghost use Rattle.mw_model.specs.Pictures.{IsImage};
 
+use crate::images::image;
 use mw_element::Element;
 use mw_model::Name;
 use mw_netpbm::read;
@@ -10,7 +11,6 @@ use mw_reference::ReferenceImage;
 use std::alloc::Global;
 use std::process::Abort;
 use std::sync::Arc;
-use test_images::image;
 
 /// A set, in which a square of four by four pixels and a line stand.
 pub(crate) const SET: &[u8] = b"P1\n7 6\n0000000\n0111100\n0111100\n0111101\n0111101\n0000001\n";

@@ -116,6 +116,29 @@ fn flat_operations_on_each_kind(rt: HostRuntime) {
     flat_operations_are_plain(&rt, rt.alloc(), DEEP);
 }
 
+/// The full square of 255 x 255 pixels.
+fn largest_square(rt: &impl Abort, alloc: Global) -> Arc<Element> {
+    let mut bytes = b"P1\n255 255\n".to_vec(alloc).ok().expect(rt, "memory");
+    for _ in 0..65025u32 {
+        bytes.push(b'1').ok().expect(rt, "memory");
+    }
+    element(rt, alloc, &bytes, 126, 126)
+}
+
+fn large_operations_are_plain(rt: &impl Abort, alloc: Global, bytes: &[u8], b: &Arc<Element>) {
+    let (image, n) = (picture(rt, alloc, bytes), name(rt));
+    is_plain(rt, alloc, &FlatOp::Opening(n, n), &image, b, b);
+    is_plain(rt, alloc, &FlatOp::Rank(n, n, 300), &image, b, b);
+}
+
+#[test]
+fn operations_by_the_largest_square(rt: HostRuntime) {
+    let b = largest_square(&rt, rt.alloc());
+    for bytes in [SET, GREY, DEEP] {
+        large_operations_are_plain(&rt, rt.alloc(), bytes, &b);
+    }
+}
+
 /// So many levels, which are fewer than all that 16 bits have.
 fn few(rt: &impl Abort, levels: u32) -> u16
     ensures { result < 65535 }

@@ -2,11 +2,11 @@
 
 use crate::called::Called;
 use crate::given::{Call, Job, Way, with_elements, with_job};
-use crate::made::{expect, image_made, set_made, volumes_are};
+use crate::made::{even, expect, image_made, set_made, volumes_are};
 use crate::scenes::{
-    CORNER, COUNT, INNER, Levels, OF_LEVEL, OF_POINT, OF_ROWS, SIDES, Scene, Shown, count_of,
-    dotted, halved, hit, hit_pixels, is_even, large_call, marked, miss, one_level, ones, shows,
-    shows_edge, shows_square, squared,
+    CORNER, COUNT, INNER, Levels, OF_LEVEL, OF_POINT, OF_ROWS, SIDES, STRIPS, Scene, Shown, comb,
+    count_of, dotted, halved, hit, hit_pixels, is_even, large_call, marked, miss, one_level, ones,
+    sample, shows, shows_edge, shows_square, squared,
 };
 use std::alloc::Global;
 use std::process::Abort;
@@ -91,6 +91,47 @@ pub(crate) fn levels_are_left<P: Called>(rt: &impl Abort, alloc: Global, levels:
     }
 }
 
+/// One operator leaves a frame of several strips of one level, or else nothing of it.
+fn strips_are_left<P: Called>(
+    rt: &impl Abort,
+    alloc: Global,
+    job: Job,
+    sides: (u32, u32),
+    is_left: bool,
+    levels: Levels,
+) {
+    let (_, _, level, wanted) = levels;
+    let (width, height) = sides;
+    let count = width as usize * height as usize;
+    let (pixels, f) = (
+        ones(rt, alloc),
+        even(rt, alloc, count, sample::<P>(rt, level)),
+    );
+    let call = large_call(Way::Flat, job, sides, levels, &pixels);
+    let out = image_made(rt, alloc, call, &f, count);
+    expect(rt, call, 0, is_even(&out, if is_left { wanted } else { 0 }));
+}
+
+pub(crate) fn levels_are_left_in_strips<P: Called>(rt: &impl Abort, alloc: Global, levels: Levels) {
+    for sides in STRIPS {
+        for (job, _, is_left) in OF_LEVEL {
+            strips_are_left::<P>(rt, alloc, job, sides, is_left, levels);
+        }
+    }
+}
+
+/// An opening by over 20,000 runs leaves a frame of one level.
+pub(crate) fn level_is_left_by_a_comb<P: Called>(rt: &impl Abort, alloc: Global, levels: Levels) {
+    let (_, _, level, wanted) = levels;
+    let (pixels, f) = (
+        comb(rt, alloc),
+        even(rt, alloc, 90000, sample::<P>(rt, level)),
+    );
+    let call = large_call(Way::Flat, (2, 0), (300, 300), levels, &pixels);
+    let out = image_made(rt, alloc, call, &f, 90000);
+    expect(rt, call, 0, is_even(&out, wanted));
+}
+
 /// So many places have level `k` or more.
 fn reach(rt: &impl Abort, alloc: Global, call: Call<'_>, f: &[impl Called], k: u32, count: u64) {
     let call = with_job(call, (0, k));
@@ -151,6 +192,14 @@ pub(crate) fn squares_are_restored<P: Called>(rt: &impl Abort, alloc: Global, le
         let call = large_call(Way::Restoration, (0, 2), sides, levels, &pixels);
         square_is_restored::<P>(rt, alloc, call);
     }
+}
+
+/// Of no marks nothing is restored, by as many levels as there may be.
+pub(crate) fn nothing_is_restored<P: Called>(rt: &impl Abort, alloc: Global, levels: Levels) {
+    let (pixels, f) = (ones(rt, alloc), even(rt, alloc, 600, sample::<P>(rt, 0)));
+    let call = large_call(Way::Restoration, (0, 254), (600, 1), levels, &pixels);
+    let out = set_made(rt, alloc, call, &f, 600);
+    expect(rt, call, 0, is_even(&out, 0));
 }
 
 /// Openings by the square leave the square, and those of the next size nothing.

@@ -1,16 +1,14 @@
 //! Tests of what C calls and of what that stands on: each function by a worked example and beside the reference, at full size,
-//! and with each refusal, first fault first, that leaves the caller's array as it was (`beside_reference`, `refusals`, `sizes`
-//! and so on); operations on whole images (`direct_..`); operators from array to array, strips beside whole frames, rows beside
-//! the whole result (`strips_..`); arrays. No contract can rule out that a call tells want of memory from some size on; here it
-//! would fail a test.
+//! in frames of several strips, and with what a call may be refused behind its arrays (`beside_reference`, `sizes`, `refusals`
+//! and so on); operations on whole images (`direct_..`); what hangs together, and its kernels (`geodesic_..`). The contracts say
+//! what is made and in which order faults are told. That it is made wherever there is memory, no contract says: a body that wants
+//! memory from some size on would fail a test here.
 //!
 //! ```text
-//! rt test     // in this folder; then `make memory` refuses each allocation of `direct_memory` and `strips_memory` in turn
+//! rt test     // in this folder; then `make memory` refuses each allocation of `direct_memory` and `geodesic_memory` in turn
 //! ```
 #![tactic(auto)]
 
-#[cfg(test)]
-mod arrays;
 #[cfg(test)]
 mod beside_reference;
 #[cfg(test)]
@@ -30,7 +28,31 @@ mod direct_reference;
 #[cfg(test)]
 mod faulty;
 #[cfg(test)]
+mod geodesic_area_calls;
+#[cfg(test)]
+mod geodesic_areas;
+#[cfg(test)]
+mod geodesic_calls;
+#[cfg(test)]
+mod geodesic_derived;
+#[cfg(test)]
+mod geodesic_distances;
+#[cfg(test)]
+mod geodesic_full_size;
+#[cfg(test)]
+mod geodesic_given;
+#[cfg(test)]
+mod geodesic_kept;
+#[cfg(test)]
+mod geodesic_labels;
+#[cfg(test)]
+mod geodesic_levels;
+#[cfg(test)]
+mod geodesic_memory;
+#[cfg(test)]
 mod given;
+#[cfg(test)]
+mod images;
 #[cfg(test)]
 mod large;
 #[cfg(test)]
@@ -45,20 +67,6 @@ mod refusals;
 mod scenes;
 #[cfg(test)]
 mod sizes;
-#[cfg(test)]
-mod strips_beside_reference;
-#[cfg(test)]
-mod strips_direct;
-#[cfg(test)]
-mod strips_given;
-#[cfg(test)]
-mod strips_jobs;
-#[cfg(test)]
-mod strips_memory;
-#[cfg(test)]
-mod strips_rows;
-#[cfg(test)]
-mod strips_seams;
 #[cfg(test)]
 mod wide_sizes;
 #[cfg(test)]

@@ -2,11 +2,11 @@
 
 use crate::called::Called;
 use crate::given::{Call, Way};
+use crate::images::are_levels;
 use mw_model::NoMemory;
 use mw_pixel::{Pixel, copies};
 use std::alloc::Global;
 use std::process::Abort;
-use test_images::are_levels;
 
 fn name(way: Way) -> &'static str {
     match way {
@@ -98,7 +98,7 @@ pub(crate) fn part<T>(out: &mut [T], room: usize) -> &mut [T] {
     front
 }
 
-/// Stops where a spectrum has other volumes, up to eight of them.
+/// Stops where a spectrum has other volumes, up to 33 of them.
 pub(crate) fn volumes_are<P: Called>(
     rt: &impl Abort,
     alloc: Global,
@@ -106,7 +106,7 @@ pub(crate) fn volumes_are<P: Called>(
     f: &[P],
     wanted: &[u64],
 ) {
-    let mut out = [77u64; 8];
+    let mut out = [77u64; 33];
     let made = part(&mut out, wanted.len());
     let answer = P::volumes(alloc, call, f, made);
     expect(rt, call, answer, answer == 0 && &*made == wanted);

@@ -96,9 +96,24 @@ pub(crate) const OF_LEVEL: [(Job, (u32, u32), bool); 7] = [
     ((6, 0), (8192, 2048), false),
 ];
 
+/// Frames of several strips. In the first two the last word of a row of a set is not full.
+pub(crate) const STRIPS: [(u32, u32); 3] = [(8190, 264), (201, 8192), (96, 5632)];
+
 /// The pixels of a full square.
 pub(crate) fn ones(rt: &impl Abort, alloc: Global) -> Vec<u8> {
     even(rt, alloc, 65025, 1)
+}
+
+/// The square without each third column, with its origin: no other element has so many runs.
+pub(crate) fn comb(rt: &impl Abort, alloc: Global) -> Vec<u8> {
+    let mut pixels = ones(rt, alloc);
+    for y in 0..255u32 {
+        for x in 0..85u32 {
+            let column = x.saturating_mul(3).saturating_add(2);
+            put(pixels.as_mut_slice(), place(255, column, y), 0u8);
+        }
+    }
+    pixels
 }
 
 /// The full square of these pixels, from column 100 of row 30.

@@ -2,7 +2,8 @@
 
 use crate::given::{Sort, Way};
 use crate::large::{
-    edges_are_hit, level_is_left, levels_are_left, point_is_shown, points_are_shown,
+    edges_are_hit, level_is_left, level_is_left_by_a_comb, levels_are_left,
+    levels_are_left_in_strips, nothing_is_restored, point_is_shown, points_are_shown,
     rows_of_points_are_shown, squares_are_restored, thresholds_are, volumes_of_level_are,
     volumes_of_square_are,
 };
@@ -52,6 +53,22 @@ fn one_level_in_sets(rt: HostRuntime) {
 }
 
 #[test]
+fn strips_of_one_level_in_bytes(rt: HostRuntime) {
+    levels_are_left_in_strips::<u8>(&rt, rt.alloc(), BYTES);
+}
+
+#[test]
+fn strips_of_one_level_in_sets(rt: HostRuntime) {
+    levels_are_left_in_strips::<u8>(&rt, rt.alloc(), PIXELS);
+}
+
+#[test]
+fn one_level_by_a_comb(rt: HostRuntime) {
+    level_is_left_by_a_comb::<u8>(&rt, rt.alloc(), BYTES);
+    level_is_left_by_a_comb::<u8>(&rt, rt.alloc(), PIXELS);
+}
+
+#[test]
 fn a_rank_of_one_level(rt: HostRuntime) {
     let alloc = rt.alloc();
     level_is_left::<u8>(&rt, alloc, (7, 300), (4096, 4096), true, BYTES);
@@ -93,6 +110,7 @@ fn skeletons(rt: HostRuntime) {
 #[test]
 fn restorations(rt: HostRuntime) {
     squares_are_restored::<u8>(&rt, rt.alloc(), (Sort::Bytes, 3, 0, 0));
+    nothing_is_restored::<u8>(&rt, rt.alloc(), (Sort::Bytes, 255, 0, 0));
 }
 
 #[test]

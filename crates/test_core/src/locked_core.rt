@@ -3,7 +3,6 @@
 ghost use Rattle.std.specs.Prelude.{◌≡◌, [], IfOk};
 ghost use Rattle.mw_model.specs.Machine.{Machine, start_state};
 ghost use Rattle.mw_model.specs.Stands.{StandsFor};
-ghost use Rattle.mw_grid.specs.Grids.{IsTileSide};
 
 use mw_core::events::{Answer, Event, serve};
 use mw_core::{Core, NoMemory};
@@ -21,7 +20,6 @@ impl LockedCore {
 
     /// A core that has accepted nothing yet.
     pub fn new(alloc: Global, side: u32) -> Result<Self, NoMemory>
-        requires { IsTileSide side }
         ensures stands { IfOk result (λ h. StandsFor h.core start_state) }
         ensures log { IfOk result (λ h. h.core.log ≡ []) }
         ensures side { IfOk result (λ h. h.core.side ≡ side) }

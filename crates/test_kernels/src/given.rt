@@ -4,7 +4,7 @@ ghost use Rattle.std.specs.Prelude.{◌≡◌};
 ghost use Rattle.std.specs.Arc.{arc_value};
 
 use mw_grid::whole_frame;
-use mw_model::TaskId;
+use mw_model::{Offset, Rect, TaskId};
 use mw_pixel::{Bit, Planar, Plane};
 use mw_step_task::{SharedWindow, Step, Work};
 use mw_tile_pieces::Pieces;
@@ -17,6 +17,23 @@ pub(crate) type Even = (u16, u16);
 
 /// How many columns and rows a picture has.
 pub(crate) type Sides = (u32, u32);
+
+/// Three pixels in a row, from their middle.
+pub(crate) const BAR: [Offset; 3] = [
+    Offset { dx: -1, dy: 0 },
+    Offset { dx: 0, dy: 0 },
+    Offset { dx: 1, dy: 0 },
+];
+
+/// A rectangle by its upper left corner and its sides.
+pub(crate) fn rect(x: u32, y: u32, width: u32, height: u32) -> Rect {
+    Rect {
+        x,
+        y,
+        width,
+        height,
+    }
+}
 
 /// The plane, which others can own too.
 pub(crate) fn owned<P: Planar>(rt: &impl Abort, alloc: Global, plane: Plane<P>) -> Arc<Plane<P>>

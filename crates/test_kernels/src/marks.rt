@@ -8,17 +8,27 @@ use std::alloc::Global;
 use std::process::Abort;
 use std::sync::Arc;
 use std::test::Fail;
-use test_images::{bit_row, plane_of};
 
 /// Whether a set, whose row is a word and one column more, has its first pixel, those between, and its last one.
 type Pixels = (bool, bool, bool);
 
+/// Writes a pixel over that in a column of a row.
+fn put(row: &mut Plane<Bit>, x: u32, dot: &Plane<Bit>) {
+    if x < row.width() && row.height() == 1 && dot.width() == 1 && dot.height() == 1 {
+        row.copy_run(x, 0, dot, 0, 0, 1);
+    }
+}
+
+fn dot(alloc: Global, is_set: bool) -> Result<Plane<Bit>, Fail> {
+    Ok(Plane::filled(alloc, 1, 1, Bit::new(is_set))?)
+}
+
 fn row(alloc: Global, pixels: Pixels) -> Result<Plane<Bit>, Fail> {
     let (first, between, last) = pixels;
-    let mut levels = [u16::from(between); 65];
-    levels[0] = u16::from(first);
-    levels[64] = u16::from(last);
-    plane_of::<Bit>(alloc, &bit_row(alloc, &levels)?)
+    let mut row = Plane::filled(alloc, 65, 1, Bit::new(between))?;
+    put(&mut row, 0, &dot(alloc, first)?);
+    put(&mut row, 64, &dot(alloc, last)?);
+    Ok(row)
 }
 
 fn set(rt: &impl Abort, alloc: Global, pixels: Pixels) -> SharedWindow {

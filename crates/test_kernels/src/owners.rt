@@ -4,7 +4,7 @@
 ghost use Rattle.std.specs.Prelude.{◌↔◌, ◌≤◌, All, IsTrue};
 ghost use Rattle.mw_tile_planes.specs.Tiles.{AllPlaced};
 
-use crate::given::{filled, owned, window};
+use crate::given::{filled, owned, rect, window};
 use mw_grid::{Grid, is_within};
 use mw_model::{Kind, Rect};
 use mw_pixel::{Planar, Plane};
@@ -14,7 +14,6 @@ use mw_tile_planes::{Tile, TiledPlane};
 use std::alloc::Global;
 use std::process::Abort;
 use std::sync::Arc;
-use test_images::rect;
 
 fn bytes_fit(samples: &[u8], maxval: u8) -> bool
     ensures { IsTrue result ↔ All (λ s. s ≤ maxval) samples.now }

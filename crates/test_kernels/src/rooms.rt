@@ -1,11 +1,10 @@
 //! What room results keep, and how few bits levels are said to have: more of either costs memory or time, and changes no result.
 
-use crate::given::filled;
+use crate::given::{BAR, filled, rect};
 use mw_rank::rank;
 use mw_rank_counts::bits_in;
 use mw_tile::Window;
 use std::process::Abort;
-use test_images::{BAR, rect};
 
 /// Ranks of a tile keep room for its samples alone, however large the window is.
 #[test]

@@ -1,14 +1,13 @@
 //! Calls at shapes that no session asks for succeed: no offsets, offsets and boxes far past the frame, numbers before and after all
 //! ranks, and planes without samples. What they make is in their contracts, but none rules out that memory is refused.
 
-use crate::given::filled;
+use crate::given::{BAR, filled, rect};
 use mw_line::{Steps, line};
 use mw_model::{Offset, OffsetBox, Rect};
 use mw_pixel::{Bit, Max, Min, Plane, copies};
 use mw_tile::Window;
 use std::alloc::Global;
 use std::process::Abort;
-use test_images::{BAR, rect};
 
 /// The row of the worked examples.
 fn five(rt: &impl Abort, alloc: Global) -> Window<u16> {

@@ -2,7 +2,7 @@
 //! memory from some size on; here it would fail a test. What is made of one level throughout is one level. Steps reach most
 //! kernels, and those that none reaches are called by themselves.
 
-use crate::given::{Even, Sides, filled, push, window, work};
+use crate::given::{BAR, Even, Sides, filled, push, window, work};
 use mw_bits::WordExtremum;
 use mw_grid::whole_frame;
 use mw_model::{Offset, OffsetBox};
@@ -15,7 +15,6 @@ use mw_tile::{Window, cut};
 use std::alloc::Global;
 use std::process::Abort;
 use std::sync::Arc;
-use test_images::BAR;
 
 const SIDES: [Sides; 2] = [(4096, 4096), (8192, 2048)];
 

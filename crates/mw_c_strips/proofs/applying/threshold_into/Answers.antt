@@ -1,5 +1,5 @@
 use Rattle.std.proofs.Common.{◌≡◌, ℕ, map, arith, ap, sym, ◌∙◌, cond, nat_le}
-use Rattle.mw_c_strips.specs.declared.layers.Rule.TheVariants as rules
+use Rattle.mw_c_lent.specs.declared.rules.Rule.TheVariants as rules
 use Rattle.mw_c_strips.specs.Layers.{rule_picture}
 use Rattle.mw_c_strips.proofs.Refilled.{map_itself}
 use Rattle.std.proofs.lemmas.Result.{IfOk-weaker}

@@ -2,9 +2,10 @@ use Rattle.std.proofs.Common.{◌≡◌, ◌∙◌, sym, subst}
 use Rattle.std.specs.Arc.{arc_value}
 use Rattle.mw_model.specs.Pictures.{sample}
 use Rattle.mw_c_strips.specs.Origins.{origin_picture}
-use Rattle.mw_c_strips.specs.declared.layers.Rule.{Rule}
+use Rattle.mw_c_lent.specs.declared.rules.Rule.{Rule}
 use Rattle.mw_c_strips.specs.Layers.{rule_picture}
-use Rattle.mw_c_strips.proofs.PixelValues.{greatest_there, least_there, ranked_there, upper_there}
+use Rattle.mw_c_lent.proofs.Steps.{greatest_there, least_there, ranked_there}
+use Rattle.mw_c_strips.proofs.PixelValues.{upper_there}
 use Rattle.mw_c_strips.proofs.by_pixel.made_at.Goals as goal
 
 pub returns-in-Least : goal.returns-in-Least

@@ -7,7 +7,8 @@ use Rattle.mw_c_arrays.specs.Arrays.{grey16_picture, grey8_picture, set_in_bytes
 use Rattle.mw_c_arrays.specs.declared.sources.ArrayImage.TheVariants as source
 use Rattle.mw_c_arrays.specs.Sources.{IsArrayImage, picture_in}
 use Rattle.mw_c_strips.specs.Parts.{IsStrip, part_of}
-use Rattle.mw_c_strips.proofs.RowCells.{grey_rows, set_rows, strip_within}
+use Rattle.mw_c_lent.proofs.Rows.{strip_within}
+use Rattle.mw_c_strips.proofs.RowCells.{grey_rows, set_rows}
 use Rattle.mw_c_strips.proofs.Filtered.{fills}
 use Rattle.mw_c_strips.proofs.rows.rows.Goals as goal
 

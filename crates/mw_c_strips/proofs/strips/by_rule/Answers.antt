@@ -12,7 +12,8 @@ use Rattle.std.proofs.lemmas.Result.{IfOk-weaker}
 use Rattle.mw_model.specs.Pictures.{Picture}
 use Rattle.mw_c_strips.specs.Layers.{rule_picture}
 use Rattle.mw_c_strips.specs.Parts.{IsStrip, made_picture, part_of}
-use Rattle.mw_c_strips.proofs.Cutting.{place_is, unsummed_step, read_strip, rule_fits, rule_made, strip_inside}
+use Rattle.mw_c_lent.proofs.Rows.{read_strip}
+use Rattle.mw_c_strips.proofs.Cutting.{place_is, unsummed_step, rule_fits, rule_made, strip_inside}
 use Rattle.mw_c_strips.proofs.strips.by_rule.Goals as goal
 
 pub grown-place-requires : goal.grown-place-requires

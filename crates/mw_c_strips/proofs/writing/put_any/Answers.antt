@@ -1,7 +1,7 @@
 use Rattle.std.proofs.Common.{arith, refl}
 use Rattle.mw_c_strips.specs.Layers.{formula_picture}
 use Rattle.mw_c_strips.proofs.InPlace.{none_made}
-use Rattle.mw_c_strips.proofs.Written.{no_rows}
+use Rattle.mw_c_lent.proofs.Written.{no_rows}
 use Rattle.mw_c_strips.proofs.writing.put_any.Goals as goal
 
 pub put_rest-requires : goal.put_rest-requires

@@ -3,7 +3,8 @@ use Rattle.std.proofs.lemmas.Nat.{mul-le}
 use Rattle.mw_c_arrays.specs.Sources.{picture_in}
 use Rattle.mw_c_strips.specs.Layers.{rule_picture}
 use Rattle.mw_c_strips.specs.Rows.{rows_from}
-use Rattle.mw_c_strips.proofs.InPlace.{nothing_between, rows_in_three, samples_between}
+use Rattle.mw_c_lent.proofs.Rows.{samples_between}
+use Rattle.mw_c_strips.proofs.InPlace.{nothing_between, rows_in_three}
 use Rattle.mw_c_strips.proofs.writing.put_around.Goals as goal
 use Rattle.mw_c_strips.proofs.writing.put_around.Goals.{After-split_at_mut-made}
 

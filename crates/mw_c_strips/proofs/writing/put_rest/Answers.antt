@@ -6,7 +6,7 @@ use Rattle.mw_c_strips.specs.Parts.{HasImageRows}
 use Rattle.mw_c_strips.specs.Rows.{EndAt, rows_from}
 use Rattle.mw_c_strips.proofs.Formulas.{formula_frame, formula_is_picture, formula_sides}
 use Rattle.mw_c_strips.proofs.SomeRows.{strip_room}
-use Rattle.mw_c_strips.proofs.Written.{all_cells}
+use Rattle.mw_c_lent.proofs.Written.{all_cells}
 use Rattle.mw_c_strips.proofs.writing.put_rest.Goals as goal
 
 pub strip_from-strip-requires : goal.strip_from-strip-requires

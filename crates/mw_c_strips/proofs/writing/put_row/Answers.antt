@@ -4,7 +4,7 @@ use Rattle.mw_model.proofs.ImagePlaces.{sample_bounded}
 use Rattle.mw_c_strips.specs.Layers.{formula_picture}
 use Rattle.mw_c_strips.proofs.Formulas.{formula_is_picture}
 use Rattle.mw_c_strips.proofs.SomeRows.{room_for_cell}
-use Rattle.mw_c_strips.proofs.Written.{row_full, row_more}
+use Rattle.mw_c_lent.proofs.Written.{row_full, row_more}
 use Rattle.mw_c_strips.proofs.writing.put_row.Goals as goal
 
 pub sample_of-requires : goal.sample_of-requires

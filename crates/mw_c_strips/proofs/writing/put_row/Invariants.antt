@@ -1,6 +1,6 @@
 use Rattle.std.proofs.Common.{◌+◌, ◌*◌, ◌≤◌, length}
 use Rattle.mw_c_strips.specs.Layers.{formula_picture}
-use Rattle.mw_c_strips.specs.Parts.{HasCells}
+use Rattle.mw_c_lent.specs.Rows.{HasCells}
 use Rattle.mw_c_strips.proofs.writing.put_row.Given as goal
 
 abbrev pub invariant-loop-x : goal.invariant-loop-x

@@ -1,7 +1,7 @@
 use Rattle.std.proofs.Common.{◌≡◌, ℕ, ◌+◌, ◌-◌, ◌*◌, ap, arith, ◌∙◌}
 use borrow.Rule.Slice.PartMut.{put_mid}
 use Rattle.mw_model.specs.Pictures.{Picture}
-use Rattle.mw_c_strips.proofs.Written.{rows_put}
+use Rattle.mw_c_lent.proofs.Written.{rows_put}
 use Rattle.mw_c_strips.proofs.writing.put_rows.Goals as goal
 
 pub returns : goal.returns

@@ -6,7 +6,8 @@ use Rattle.mw_c_strips.specs.Parts.{HasImageRows}
 use Rattle.mw_c_strips.specs.Rows.{EndAt, rows_from}
 use Rattle.mw_c_strips.proofs.Formulas.{formula_frame, formula_is_picture, formula_sides}
 use Rattle.mw_c_strips.proofs.SomeRows.{room_behind, strip_room}
-use Rattle.mw_c_strips.proofs.Written.{no_rows, part_size, part_top}
+use Rattle.mw_c_lent.proofs.Written.{no_rows}
+use Rattle.mw_c_strips.proofs.RowCells.{part_size, part_top}
 use Rattle.mw_c_strips.proofs.writing.put_strips.Goals as goal
 
 pub strip_from-strip-requires : goal.strip_from-strip-requires

@@ -29,7 +29,11 @@ returns c =
     let free_7 = c.in_ok-arg-7.ensures.globals ∙ ap₂ both free_6 c.usual_option-4.ensures.local in
     let eighth = c.in_ok-arg-8.ensures.shape c.number_option.ensures.local ∙ ap₂ with_rule seventh c.number_option.ensures.rule in
     let free_8 = c.in_ok-arg-8.ensures.globals ∙ ap₂ both free_7 c.number_option.ensures.local in
-    IfOk-weaker c.arg-9.result _ _ (λ r h. (
-      h.shape c.number_option-2.ensures.local ∙ ap₂ with_rule eighth c.number_option-2.ensures.rule,
-      h.globals ∙ ap₂ both free_8 c.number_option-2.ensures.local,
-    )) c.arg-9.ensures
+    let ninth = c.in_ok-arg-9.ensures.shape c.number_option-2.ensures.local ∙ ap₂ with_rule eighth c.number_option-2.ensures.rule in
+    let free_9 = c.in_ok-arg-9.ensures.globals ∙ ap₂ both free_8 c.number_option-2.ensures.local in
+    let tenth = c.in_ok-arg-10.ensures.shape c.number_option-3.ensures.local ∙ ap₂ with_rule ninth c.number_option-3.ensures.rule in
+    let free_10 = c.in_ok-arg-10.ensures.globals ∙ ap₂ both free_9 c.number_option-3.ensures.local in
+    IfOk-weaker c.arg-11.result _ _ (λ r h. (
+      h.shape c.number_option-4.ensures.local ∙ ap₂ with_rule tenth c.number_option-4.ensures.rule,
+      h.globals ∙ ap₂ both free_10 c.number_option-4.ensures.local,
+    )) c.arg-11.ensures

@@ -24,6 +24,6 @@ returns c =
     let is : r.a ≡ input.Image x = c.in-Image.is ∙ ap (λ (y : Shape). input.Image y) i.is in
     let l = looks-up s.table s.kept c.args.name c.args.op r.submission x r.a r.b r.c c.requires.accepted c.requires.submission c.requires.below c.requires.fits c.requires.first c.requires.second c.requires.third is in
     record {
-      planned = planned-made c.new.result s.table s.kept c.args.name c.args.op r.submission l.0 i.kind i.width i.height i.maxval c.args.side r.a r.b r.c c.in_ok-plan.plan c.new-grid.result
-          l.1 c.requires.faultless c.in_ok-plan.ensures.plan c.new-grid.ensures c.new.ensures.progress c.new.ensures.input c.new.ensures.tiling c.new.ensures.whole;
+      planned = planned-made c.new.result s.table s.kept c.args.name c.args.op r.submission l.0 i.kind i.width i.height i.maxval c.args.side c.side_for-tiles.result r.a r.b r.c c.in_ok-plan.plan c.new-grid.result
+          l.1 c.requires.faultless c.in_ok-plan.ensures.plan c.side_for-tiles.ensures c.new-grid.ensures c.new.ensures.progress c.new.ensures.input c.new.ensures.tiling c.new.ensures.whole;
     }

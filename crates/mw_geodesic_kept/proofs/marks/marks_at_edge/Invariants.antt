@@ -1,7 +1,15 @@
-use Rattle.std.proofs.Common.{◌≡◌, ◌+◌}
-use Rattle.std.specs.Prelude.{vec_len}
-use Rattle.mw_geodesic_kept.specs.Keeping.{IsAtEdge, AreMarked}
+use Rattle.std.proofs.Common.{◌≡◌, ◌+◌, length, get_or}
+use Rattle.mw_geodesic_kept.specs.Keeping.{LieHeld, IsAtEdge, AreMarked}
 use Rattle.mw_geodesic_kept.proofs.marks.marks_at_edge.Given as goal
 
-abbrev pub invariant-loop-i : goal.invariant-loop-i
-invariant-loop-i l = record { size : vec_len l.marks ≡ l.count + 1; marked : AreMarked (IsAtEdge l.width l.height) l.runs l.numbers l.i l.marks.items }
+abbrev pub invariant-loop-y : goal.invariant-loop-y
+invariant-loop-y l = record {
+  size : length l.marks.items ≡ l.count + 1;
+  marked : (held : LieHeld l.width l.height (l.count + 1) l.spans l.starts l.numbers) → AreMarked (IsAtEdge l.width l.height) held.runs l.numbers (get_or l.starts l.y 0) l.marks.items;
+}
+
+abbrev pub invariant-loop-k : goal.invariant-loop-k
+invariant-loop-k l = record {
+  size : length l.marks.items ≡ l.count + 1;
+  marked : (held : LieHeld l.width l.height (l.count + 1) l.spans l.starts l.numbers) → AreMarked (IsAtEdge l.width l.height) held.runs l.numbers l.k l.marks.items;
+}

@@ -1,33 +1,79 @@
-use Rattle.std.proofs.Common.{List, ℕ, get_or, refl, sym, ap, length, arith, ◌∙◌}
+use Rattle.std.proofs.Common.{◌≡◌, ◌+◌, ◌-◌, ◌<◌, ◌≤◌, ◌^◌, ◌∙◌, List, ℕ, get_or, length, refl, sym, ap, subst, arith}
 use Rattle.std.proofs.lemmas.List.{length-replicate, length-set}
-use Rattle.mw_geodesic_labels.proofs.RunAreas.{areas_none, areas_more, area_fits}
+use Rattle.mw_geodesic_runs.specs.declared.runs.Run.{Run}
+use Rattle.mw_geodesic_labels.specs.Gathering.{AreAreasOf}
+use Rattle.mw_geodesic_labels.proofs.RunAreas.{areas_none, area_fits, area_on}
 use Rattle.mw_geodesic_labels.proofs.areas.areas_of.Goals as goal
 
-pub loop-i-init : goal.loop-i-init
-loop-i-init c = record {
+pub loop-y-init : goal.loop-y-init
+loop-y-init c = record {
   size = ap (λ (t : List ℕ). length t) c.in_ok-areas.ensures ∙ length-replicate c.args.count 0;
-  areas = areas_none c.args.runs.now c.args.numbers.now c.in_ok-areas.areas.items c.args.count c.in_ok-areas.ensures;
+  areas = λ held.
+      subst (λ (t : ℕ). AreAreasOf held.runs c.args.numbers.now t c.args.count c.in_ok-areas.areas.items) (sym held.begins)
+      (areas_none held.runs c.args.numbers.now c.in_ok-areas.areas.items c.args.count c.in_ok-areas.ensures);
 }
 
+pub loop-k-init : goal.loop-k-init
+loop-k-init c = record { size = c.loop-y.invariant.size; areas = c.loop-y.invariant.areas }
+
 pub add_area-requires-clause-some : goal.add_area-requires-clause-some
-add_area-requires-clause-some c = c.requires.wide.run c.loop-i.i (omega arith)
+add_area-requires-clause-some c =
+    let held = c.requires in
+    let k = c.loop-k.k in
+    let from : get_or c.args.starts.now c.loop-y.y 0 ≤ k = omega (arith, c.loop-k.auto.k) in
+    let is = held.is c.loop-y.y k (omega arith) from (omega arith) in
+    let within = held.within (c.loop-y.y + 1) (omega arith) in
+    subst (λ (t : Run). t.first < t.end) is (held.known.wide.run k (omega arith))
 
 pub add_area-requires-clause-positive : goal.add_area-requires-clause-positive
-add_area-requires-clause-positive c = c.requires.wide.some c.loop-i.i (omega arith)
+add_area-requires-clause-positive c =
+    let held = c.requires in
+    let within = held.within (c.loop-y.y + 1) (omega arith) in
+    held.known.wide.some c.loop-k.k (omega arith)
 
 pub add_area-requires-clause-most : goal.add_area-requires-clause-most
-add_area-requires-clause-most c = let most = c.requires.most c.loop-i.i (omega arith) in let size = c.loop-i.invariant.size in omega arith
+add_area-requires-clause-most c =
+    let held = c.requires in
+    let within = held.within (c.loop-y.y + 1) (omega arith) in
+    let most = held.known.most c.loop-k.k (omega arith) in
+    let size = c.loop-k.invariant.size in
+    omega arith
 
 pub add_area-requires-clause-fits : goal.add_area-requires-clause-fits
 add_area-requires-clause-fits c =
-    let i = c.loop-i.i in
-    area_fits c.args.runs.now c.args.numbers.now c.loop-i.areas.items c.args.count i (get_or c.args.numbers.now i 0) (omega arith) (c.requires.wide.some i (omega arith)) (c.requires.most i (omega arith)) c.requires.wide c.loop-i.invariant.areas
+    let held = c.requires in
+    let k = c.loop-k.k in
+    let n = get_or c.args.numbers.now k 0 in
+    let from : get_or c.args.starts.now c.loop-y.y 0 ≤ k = omega (arith, c.loop-k.auto.k) in
+    let is = held.is c.loop-y.y k (omega arith) from (omega arith) in
+    let within = held.within (c.loop-y.y + 1) (omega arith) in
+    subst (λ (t : Run). get_or c.loop-k.areas.items (n - 1) 0 + (t.end - t.first) < 2 ^ 32) is
+    (area_fits held.runs c.args.numbers.now c.loop-k.areas.items c.args.count k n (omega arith) (held.known.wide.some k (omega arith)) (held.known.most k (omega arith)) held.known.wide (c.loop-k.invariant.areas held))
 
-pub loop-i-preserved : goal.loop-i-preserved
-loop-i-preserved c =
-    let i = c.loop-i.i in
+pub loop-k-preserved : goal.loop-k-preserved
+loop-k-preserved c =
+    let k = c.loop-k.k in
     record {
-      size = ap (λ (t : List ℕ). length t) c.add_area.ensures ∙ length-set c.loop-i.areas.items _ _ ∙ c.loop-i.invariant.size;
-      areas = areas_more c.args.runs.now c.args.numbers.now c.loop-i.areas.items c.add_area.new.areas.items c.args.count i _ (get_or c.args.numbers.now i 0) refl refl (c.requires.wide.some i (omega arith)) (c.requires.most i (omega arith)) (sym c.loop-i.invariant.size)
-          c.add_area.ensures c.loop-i.invariant.areas;
+      size = ap (λ (t : List ℕ). length t) c.add_area.ensures ∙ length-set c.loop-k.areas.items _ _ ∙ c.loop-k.invariant.size;
+      areas = λ held.
+          let from : get_or c.args.starts.now c.loop-y.y 0 ≤ k = omega (arith, c.loop-k.auto.k) in
+          let is = held.is c.loop-y.y k (omega arith) from (omega arith) in
+          let within = held.within (c.loop-y.y + 1) (omega arith) in
+          area_on held.runs c.args.numbers.now c.loop-k.areas.items c.add_area.new.areas.items c.args.count k _ (get_or c.args.numbers.now k 0) _ is refl refl (held.known.wide.some k (omega arith)) (held.known.most k (omega arith)) (sym c.loop-k.invariant.size)
+          c.add_area.ensures (c.loop-k.invariant.areas held);
     }
+
+pub loop-y-preserved : goal.loop-y-preserved
+loop-y-preserved c = record {
+  size = c.loop-k.invariant.size;
+  areas = λ held.
+      let rises = held.rises c.loop-y.y (omega arith) in
+      let end : c.loop-k.k ≡ get_or c.args.starts.now (c.loop-y.y + 1) 0 = omega (arith, c.loop-k.auto.k-end rises) in
+      subst (λ (t : ℕ). AreAreasOf held.runs c.args.numbers.now t c.args.count c.loop-k.areas.items) end (c.loop-k.invariant.areas held);
+}
+
+pub returns-clause-areas : goal.returns-clause-areas
+returns-clause-areas c = λ held.
+    let end : c.loop-y.y ≡ c.args.height = omega arith in
+    let all : get_or c.args.starts.now c.loop-y.y 0 ≡ length held.runs = ap (λ (t : ℕ). get_or c.args.starts.now t 0) end ∙ held.ends in
+    subst (λ (t : ℕ). AreAreasOf held.runs c.args.numbers.now t c.args.count c.loop-y.areas.items) all (c.loop-y.invariant.areas held)

@@ -1,8 +1,8 @@
-use Rattle.std.proofs.Common.{List, ℕ, ◌≡◌, ◌∙◌, sym, subst, arith}
+use Rattle.std.proofs.Common.{List, [], ℕ, ◌≡◌, ◌∙◌, sym, subst, arith}
 use Rattle.mw_pixel.specs.Images.{set_of}
 use Rattle.mw_geodesic_runs.specs.declared.runs.Run.{Run}
 use Rattle.mw_geodesic_runs.specs.Runs.{RunsBefore}
-use Rattle.mw_geodesic_runs.proofs.Cuts.{runs_none, all_runs}
+use Rattle.mw_geodesic_runs.proofs.Cuts.{runs_none, all_runs, row_fits}
 use Rattle.mw_geodesic_runs.proofs.runs.runs_of.Goals as goal
 
 pub loop-y-init : goal.loop-y-init
@@ -11,8 +11,14 @@ loop-y-init c = record {
   room = c.in_ok-runs.ensures.exact ∙ c.count_runs.ensures;
 }
 
+pub cut_row-requires-clause-room : goal.cut_row-requires-clause-room
+cut_row-requires-clause-room c =
+    let fits = row_fits (set_of c.args.set.now) c.loop-y.y c.loop-y.runs.items (omega (arith, c.height-y-end.ensures)) c.loop-y.invariant.runs in
+    let room = c.loop-y.invariant.room in
+    omega arith
+
 pub loop-y-preserved : goal.loop-y-preserved
-loop-y-preserved c = record { runs = c.cut_row.ensures.runs; room = c.cut_row.ensures.room }
+loop-y-preserved c = record { runs = c.cut_row.ensures.runs [] c.loop-y.invariant.runs; room = c.cut_row.ensures.room ∙ c.loop-y.invariant.room }
 
 pub returns-clause-runs : goal.returns-clause-runs
 returns-clause-runs c =

@@ -1,7 +1,7 @@
 use Rattle.std.proofs.Common.{◌≡◌}
 use Rattle.std.specs.Prelude.{IfSome}
 use Rattle.std.specs.List.{AllByRecursion}
-use Rattle.mw_core.specs.mw_step_task.WindowTasks.{IsBounded}
+use Rattle.mw_pool_passes.specs.mw_step_task.WindowTasks.{IsBounded}
 use Rattle.mw_pool.specs.Rolls.{EndsWith}
 use Rattle.mw_pool.proofs.workers.work.Given as goal
 

@@ -11,8 +11,8 @@ returns-clause-served g c =
     let source = c.serve_one-status.new.source in
     let sink = c.serve_one-status.new.sink in
     let left = g.R.Read.remaining from.inner in
-    let old : SessionEnds = record { left = left; reads = from.reads; read_failed = from.failed; written = writer_contents g.W.Write.contents to.inner; write_failed = to.failed; told = None; tell_failed = false } in
-    let new : SessionEnds = record { left = g.R.Read.remaining source.inner; reads = source.reads; read_failed = source.failed; written = writer_contents g.W.Write.contents sink.inner; write_failed = sink.failed; told = None; tell_failed = false } in
+    let old : SessionEnds = record { left = left; reads = from.reads; read_failed = from.failed; written = writer_contents g.W.Write.contents to.inner.inner; write_failed = to.failed; told = None; tell_failed = false } in
+    let new : SessionEnds = record { left = g.R.Read.remaining source.inner; reads = source.reads; read_failed = source.failed; written = writer_contents g.W.Write.contents sink.inner.inner; write_failed = sink.failed; told = None; tell_failed = false } in
     let fresh : old ≡ untouched left (writer_contents g.W.Write.contents c.args.writer) = rw (c.requires.source_fresh.none, c.requires.source_fresh.clear, c.new-sink.ensures.clear, c.new-sink.ensures.inner) refl in
     record {
       ends = new;

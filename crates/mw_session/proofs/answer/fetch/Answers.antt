@@ -10,7 +10,7 @@ returns-in-Ok-clause-answered g c =
       said.0,
       λ m s none.
           let h = ready-by-work m (AskAlone (ask.Fetch c.args.name)) c.args.core.now c.run_all_work.new.core (c.run_all_work.ensures m s none) refl in
-          answered-fetch m c.args.name c.args.core.now c.run_all_work.new.core c.fetch.new.self h c.in-Ok.fetched.reply c.in-Ok.fetched.value said.0 c.in-Ok.ensures.served (c.in-Ok.ensures.value h.state h.stands) said.1,
+          answered-fetch m c.args.name c.args.core.now c.run_all_work.new.core c.fetch.new.core h c.in-Ok.fetched.reply c.in-Ok.fetched.value said.0 c.in-Ok.ensures.served (c.in-Ok.ensures.value h.state h.stands) said.1,
       said.2,
       said.3,
     )
@@ -20,7 +20,7 @@ returns-in-Err-clause-answered g c = (
   _,
   λ m s none.
       let h = ready-by-work m (AskAlone (ask.Fetch c.args.name)) c.args.core.now c.run_all_work.new.core (c.run_all_work.ensures m s none) refl in
-      answered-memory m (AskAlone (ask.Fetch c.args.name)) c.args.core.now c.run_all_work.new.core c.fetch.new.self h tt tt c.in-Err.ensures.err,
+      answered-memory m (AskAlone (ask.Fetch c.args.name)) c.args.core.now c.run_all_work.new.core c.fetch.new.core h tt tt c.in-Err.ensures.err,
   c.note_told.ensures.marks,
   c.note_told.ensures.wrote,
 )

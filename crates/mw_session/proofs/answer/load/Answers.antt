@@ -4,7 +4,7 @@ use Rattle.mw_session.proofs.answer.load.Goals as goal
 pub returns-clause-answered : goal.returns-clause-answered
 returns-clause-answered g c = (
   _,
-  λ m s none. answered-load m c.args.name c.args.payload.items c.read_image-image.result c.args.core.now c.load-reply.new.self c.load-reply.result s none c.read_image-image.ensures.read c.load-reply.ensures.served c.load-reply.ensures.memory c.load-reply.ensures.err c.load-reply.ensures.first,
+  λ m s none. answered-load m c.args.name c.args.payload.items c.image_of-image.result c.args.core.now c.load-reply.new.core c.load-reply.result s none c.image_of-image.ensures.read c.load-reply.ensures.served c.load-reply.ensures.memory c.load-reply.ensures.err c.load-reply.ensures.first,
   c.note_told.ensures.marks,
   c.note_told.ensures.wrote,
 )

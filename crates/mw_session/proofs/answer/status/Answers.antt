@@ -7,7 +7,7 @@ use Rattle.mw_session.proofs.answer.status.Goals as goal
 pub returns-clause-status : goal.returns-clause-status
 returns-clause-status g c = (
   _,
-  λ m s none. answered-status m (AskAlone (ask.Status c.args.name)) c.args.name c.args.core.now c.run_all_work.new.core c.status-reply.new.self c.status-reply.result (refl, refl) refl (λ e is. tt) (λ full. full) refl (c.run_all_work.ensures m s none) c.status-reply.ensures.served c.status-reply.ensures.err c.status-reply.ensures.full,
+  λ m s none. answered-status m (AskAlone (ask.Status c.args.name)) c.args.name c.args.core.now c.run_all_work.new.core c.status-reply.new.core c.status-reply.result (refl, refl) refl (λ e is. tt) (λ full. full) refl (c.run_all_work.ensures m s none) c.status-reply.ensures.served c.status-reply.ensures.err c.status-reply.ensures.full,
   c.note_told.ensures.marks,
   c.note_told.ensures.wrote,
 )
@@ -15,7 +15,7 @@ returns-clause-status g c = (
 pub returns-clause-wait : goal.returns-clause-wait
 returns-clause-wait g c = (
   _,
-  λ m s none. answered-status m (AskAlone (ask.Wait c.args.name)) c.args.name c.args.core.now c.run_all_work.new.core c.status-reply.new.self c.status-reply.result (refl, refl) refl (λ e is. tt) (λ full. full) refl (c.run_all_work.ensures m s none) c.status-reply.ensures.served c.status-reply.ensures.err c.status-reply.ensures.full,
+  λ m s none. answered-status m (AskAlone (ask.Wait c.args.name)) c.args.name c.args.core.now c.run_all_work.new.core c.status-reply.new.core c.status-reply.result (refl, refl) refl (λ e is. tt) (λ full. full) refl (c.run_all_work.ensures m s none) c.status-reply.ensures.served c.status-reply.ensures.err c.status-reply.ensures.full,
   c.note_told.ensures.marks,
   c.note_told.ensures.wrote,
 )

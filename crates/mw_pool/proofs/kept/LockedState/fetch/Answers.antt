@@ -2,7 +2,7 @@ use Rattle.std.proofs.Common.{None}
 use Rattle.mw_model.specs.declared.calls.Call.TheVariants as call
 use Rattle.mw_pool.proofs.Handing.{handed-served}
 use Rattle.mw_pool.proofs.KeptLemmas.{stands-served, shows-some-if}
-use Rattle.mw_core.specs.mw_store.Fetches.{shown_value}
+use Rattle.mw_pool_passes.specs.mw_store.Fetches.{shown_value}
 use Rattle.mw_pool.proofs.kept.LockedState.fetch.Goals as goal
 
 pub invariant_of-self : goal.invariant_of-self

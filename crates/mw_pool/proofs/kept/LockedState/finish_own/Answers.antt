@@ -1,6 +1,6 @@
 use Rattle.mw_model.specs.Machine.{Machine}
 use Rattle.mw_model.specs.Stands.{StandsFor}
-use Rattle.mw_core.specs.TaskAnswers.{AnswersFinish}
+use Rattle.mw_pool_passes.specs.mw_core.TaskAnswers.{AnswersFinish}
 use Rattle.mw_pool.proofs.KeptLemmas.{stands-finished}
 use Rattle.mw_pool.proofs.Handing.{handed-finished, roll-own}
 use Rattle.mw_pool.proofs.kept.LockedState.finish_own.Goals as goal

@@ -1,5 +1,5 @@
 use Rattle.mw_model.specs.declared.calls.Call.TheVariants as call
-use Rattle.mw_core.specs.mw_core_laws.Payloads.{given_image, image_payload}
+use Rattle.mw_pool_passes.specs.mw_core_laws.Payloads.{given_image, image_payload}
 use Rattle.mw_pool.proofs.Handing.{handed-served}
 use Rattle.mw_pool.proofs.KeptLemmas.{stands-served, plain-shows-nothing}
 use Rattle.mw_pool.proofs.kept.LockedState.load.Goals as goal

@@ -1,6 +1,6 @@
 use Rattle.std.proofs.Common.{◌≤◌, ap, subst, arith, length, List}
 use mathlib.Core.List.{IsPrefix}
-use Rattle.mw_core.specs.mw_step_task.WindowTasks.{WindowTask}
+use Rattle.mw_pool_passes.specs.mw_step_task.WindowTasks.{WindowTask}
 use Rattle.mw_pool.proofs.Fronts.{le-true, prefix-shorter}
 use Rattle.mw_pool.proofs.roll.Front.begins.Goals as goal
 

@@ -1,5 +1,0 @@
-use Rattle.std.proofs.Common.{inl}
-use Rattle.mw_batch.proofs.script.batch.Goals as goal
-
-pub returns : goal.returns
-returns g c = inl c.run_on.ensures.0

@@ -1,0 +1,8 @@
+-- what other crates may cite
+pub mod Rows
+pub mod Steps
+pub mod Written
+-- the crate's own
+mod Slid
+mod Views
+mod UnderBoxes

@@ -1,0 +1,62 @@
+use Rattle.std.proofs.Common.{◌≡◌, true, [], ◌∷◌, map, ap, sym, subst, ◌∙◌}
+use Rattle.std.specs.Arc.{arc_value}
+use Rattle.std.proofs.lemmas.Result.{IfOk-weaker}
+use Rattle.mw_element.specs.declared.element.Element.{Element}
+use Rattle.mw_model.specs.Pictures.{Picture, sample}
+use Rattle.mw_model.specs.Plans.{plane_of}
+use Rattle.mw_model.specs.PlanSteps.{Dilate, Erode}
+use Rattle.mw_model.specs.Rasters.{raster}
+use Rattle.mw_model.specs.Tasks.{cells_in}
+use Rattle.mw_model.specs.Windows.{seen_at}
+use Rattle.mw_rank_lent.specs.mw_rank.Ranks.{IsRank}
+use Rattle.mw_c_lent.specs.declared.rules.Rule.{Rule}
+use Rattle.mw_c_lent.specs.InPlace.{IsWholeView}
+use Rattle.mw_c_lent.specs.Rules.{rule_picture}
+use Rattle.mw_c_lent.specs.Rows.{IsStrip}
+use Rattle.mw_c_lent.proofs.Views.{ranks_whole}
+use Rattle.mw_c_lent.proofs.in_place.put_tile.Goals as goal
+
+pub returns-in-Nth-clause-made : goal.returns-in-Nth-clause-made
+returns-in-Nth-clause-made g c =
+    let level = g.P.Pixel.level in
+    let w = c.args.lent.now in
+    let out = c.medians_into.new.out in
+    let k = c.in-Nth.k in
+    let e = (arc_value c.in-Nth.element.now).offsets in
+    let offsets = c.offsets.result.now in
+    let r = c.args.tile in
+    IfOk-weaker c.medians_into.result (λ done. done ≡ true → IsRank level k (seen_at w) offsets r (raster r.width r.height out))
+    (λ done. done ≡ true → (f : Picture) → IsWholeView level w f → IsStrip r f → f.maxval ≡ c.args.maxval → map level out ≡ cells_in r (sample (rule_picture c.args.rule f)))
+    (λ done made is f whole strip top.
+    let same : offsets ≡ e = c.offsets.ensures.value ∙ ap (λ (x : Element). x.offsets) c.deref.ensures in
+    subst (λ (x : Rule). map level out ≡ cells_in r (sample (rule_picture x f))) (sym c.in-Nth.is)
+    (ranks_whole level w f offsets e k r out whole strip same (made is)))
+    c.medians_into.ensures.over_window
+
+pub returns-in-Least-clause-made : goal.returns-in-Least-clause-made
+returns-in-Least-clause-made g c =
+    let level = g.P.Pixel.level in
+    let w = c.args.lent.now in
+    let r = c.args.tile in
+    let out = c.put_least.new.out in
+    IfOk-weaker c.put_least.result (λ done. done ≡ true → (f : Picture) → IsWholeView level w f → IsStrip r f → f.maxval ≡ c.args.maxval → map level out ≡ cells_in r (sample (plane_of (Erode c.deref-in-Least.result.now.offsets) (f ∷ []) f.width f.height)))
+    (λ done. done ≡ true → (f : Picture) → IsWholeView level w f → IsStrip r f → f.maxval ≡ c.args.maxval → map level out ≡ cells_in r (sample (rule_picture c.args.rule f)))
+    (λ done made is f whole strip top.
+    made is f whole strip top
+    ∙ ap (λ (x : Element). cells_in r (sample (plane_of (Erode x.offsets) (f ∷ []) f.width f.height))) c.deref-in-Least.ensures
+    ∙ ap (λ (x : Rule). cells_in r (sample (rule_picture x f))) (sym c.in-Least.is))
+    c.put_least.ensures.made
+
+pub returns-in-Greatest-clause-made : goal.returns-in-Greatest-clause-made
+returns-in-Greatest-clause-made g c =
+    let level = g.P.Pixel.level in
+    let w = c.args.lent.now in
+    let r = c.args.tile in
+    let out = c.put_greatest.new.out in
+    IfOk-weaker c.put_greatest.result (λ done. done ≡ true → (f : Picture) → IsWholeView level w f → IsStrip r f → map level out ≡ cells_in r (sample (plane_of (Dilate c.deref-in-Greatest.result.now.offsets) (f ∷ []) f.width f.height)))
+    (λ done. done ≡ true → (f : Picture) → IsWholeView level w f → IsStrip r f → f.maxval ≡ c.args.maxval → map level out ≡ cells_in r (sample (rule_picture c.args.rule f)))
+    (λ done made is f whole strip top.
+    made is f whole strip
+    ∙ ap (λ (x : Element). cells_in r (sample (plane_of (Dilate x.offsets) (f ∷ []) f.width f.height))) c.deref-in-Greatest.ensures
+    ∙ ap (λ (x : Rule). cells_in r (sample (rule_picture x f))) (sym c.in-Greatest.is))
+    c.put_greatest.ensures.made

@@ -1,0 +1,5 @@
+pub mod Boxes
+pub mod InPlace
+pub mod Rows
+pub mod Rules
+pub mod Slides

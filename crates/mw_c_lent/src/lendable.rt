@@ -1,0 +1,259 @@
+//! Samples of a caller's array that kernels read and write where they stand.
+
+ghost use Rattle.std.specs.Prelude.{◌≡◌, ◌+◌, ◌*◌, ◌≤◌, length, map, IfErr, IfOk, IfSome, false, true};
+ghost use Rattle.mw_model.specs.Flat.{greatest, least};
+ghost use Rattle.mw_model.specs.Rectangles.{box_offsets};
+ghost use Rattle.mw_model.specs.Windows.{seen_at};
+ghost use Rattle.mw_c_arrays.specs.Sources.{picture_in};
+ghost use Rattle.mw_line_lent.specs.Near.{IsAround, StandsInside};
+ghost use Rattle.mw_c_lent.specs.Boxes.{IsMadeUnder};
+
+use mw_c_arrays::ArrayImage;
+use mw_line_lent::{Lent, Max, Min, boxes_into, boxes_with_room};
+use mw_model::{NoMemory, Offset, OffsetBox, Rect};
+use mw_offset_lent::offsets_into;
+use mw_rank_lent::Vectored;
+use std::alloc::Global;
+
+/// A sample in levels of grey that a kernel of lent rows writes.
+pub trait Lendable: Vectored {
+    /// The samples of an array in levels of grey, where they are of this type.
+    fn grey<'a>(f: ArrayImage<'a>) -> Option<&'a [Self]>
+        ensures { IfSome result (λ samples. map Self.level samples.now ≡ (picture_in f.entry).samples) };
+
+    /// Writes the least of the neutral sample and those that are lent under a box, at each place of a tile, if it can. Says whether it
+    /// did: where not, it writes nothing. It may want memory (`NoMemory`), but only before it writes.
+    fn least_into(
+        alloc: Global,
+        lent: &Lent<Self>,
+        offsets: OffsetBox,
+        neutral: Self,
+        tile: Rect,
+        out: &mut [Self],
+    ) -> Result<bool, NoMemory>
+        requires { length out.old ≡ tile.height * tile.width }
+        ensures made { IfOk result (λ done. done ≡ true → IsMadeUnder (least (Self.level neutral)) Self.level (seen_at lent.now) (box_offsets offsets) tile out.new) }
+        ensures left_out { IfOk result (λ done. done ≡ false → out.new ≡ out.old) }
+        ensures kept { IfErr result (λ _. out.new ≡ out.old) };
+
+    /// The same of the greatest, which is 0 where none is seen.
+    fn greatest_into(
+        alloc: Global,
+        lent: &Lent<Self>,
+        offsets: OffsetBox,
+        tile: Rect,
+        out: &mut [Self],
+    ) -> Result<bool, NoMemory>
+        requires { length out.old ≡ tile.height * tile.width }
+        ensures made { IfOk result (λ done. done ≡ true → IsMadeUnder greatest Self.level (seen_at lent.now) (box_offsets offsets) tile out.new) }
+        ensures left_out { IfOk result (λ done. done ≡ false → out.new ≡ out.old) }
+        ensures kept { IfErr result (λ _. out.new ≡ out.old) };
+
+    /// Writes the least of the neutral sample and those that are lent under a box that has the place it is put on, in a tile that
+    /// stands in what is lent. There is room for six lines.
+    fn least_with_room(
+        lent: &Lent<Self>,
+        offsets: OffsetBox,
+        neutral: Self,
+        tile: Rect,
+        room: &mut [Self],
+        out: &mut [Self],
+    )
+        requires around { IsAround offsets }
+        requires stands { StandsInside lent.now.place tile }
+        requires lines { 6 * (tile.width + 255) ≤ length room.old }
+        requires room { length out.old ≡ tile.height * tile.width }
+        ensures lines { length room.new ≡ length room.old }
+        ensures size { length out.new ≡ length out.old }
+        ensures made { IsMadeUnder (least (Self.level neutral)) Self.level (seen_at lent.now) (box_offsets offsets) tile out.new };
+
+    /// The same of the greatest, which is 0 where none is seen.
+    fn greatest_with_room(
+        lent: &Lent<Self>,
+        offsets: OffsetBox,
+        tile: Rect,
+        room: &mut [Self],
+        out: &mut [Self],
+    )
+        requires around { IsAround offsets }
+        requires stands { StandsInside lent.now.place tile }
+        requires lines { 6 * (tile.width + 255) ≤ length room.old }
+        requires room { length out.old ≡ tile.height * tile.width }
+        ensures lines { length room.new ≡ length room.old }
+        ensures size { length out.new ≡ length out.old }
+        ensures made { IsMadeUnder greatest Self.level (seen_at lent.now) (box_offsets offsets) tile out.new };
+
+    /// Writes the least of the neutral sample and those that are lent under few offsets, at each place of a tile, if it can. Says
+    /// whether it did: where not, it writes nothing. It may want memory (`NoMemory`), but only before it writes.
+    fn least_under(
+        alloc: Global,
+        lent: &Lent<Self>,
+        offsets: &[Offset],
+        neutral: Self,
+        tile: Rect,
+        out: &mut [Self],
+    ) -> Result<bool, NoMemory>
+        requires { length out.old ≡ tile.height * tile.width }
+        ensures made { IfOk result (λ done. done ≡ true → IsMadeUnder (least (Self.level neutral)) Self.level (seen_at lent.now) offsets.now tile out.new) }
+        ensures left_out { IfOk result (λ done. done ≡ false → out.new ≡ out.old) }
+        ensures kept { IfErr result (λ _. out.new ≡ out.old) };
+
+    /// The same of the greatest, which is 0 where none is seen.
+    fn greatest_under(
+        alloc: Global,
+        lent: &Lent<Self>,
+        offsets: &[Offset],
+        tile: Rect,
+        out: &mut [Self],
+    ) -> Result<bool, NoMemory>
+        requires { length out.old ≡ tile.height * tile.width }
+        ensures made { IfOk result (λ done. done ≡ true → IsMadeUnder greatest Self.level (seen_at lent.now) offsets.now tile out.new) }
+        ensures left_out { IfOk result (λ done. done ≡ false → out.new ≡ out.old) }
+        ensures kept { IfErr result (λ _. out.new ≡ out.old) };
+}
+
+impl Lendable for u8 {
+    fn grey<'a>(f: ArrayImage<'a>) -> Option<&'a [u8]> {
+        match f {
+            ArrayImage::Grey8(f) => Some(f.samples),
+            ArrayImage::Grey16(_) => None,
+            ArrayImage::Pixels(_) => None,
+        }
+    }
+
+    fn least_into(
+        alloc: Global,
+        lent: &Lent<u8>,
+        offsets: OffsetBox,
+        neutral: u8,
+        tile: Rect,
+        out: &mut [u8],
+    ) -> Result<bool, NoMemory> {
+        boxes_into::<u8, Min>(alloc, lent, offsets, neutral, tile, out)
+    }
+
+    fn greatest_into(
+        alloc: Global,
+        lent: &Lent<u8>,
+        offsets: OffsetBox,
+        tile: Rect,
+        out: &mut [u8],
+    ) -> Result<bool, NoMemory> {
+        boxes_into::<u8, Max>(alloc, lent, offsets, 0, tile, out)
+    }
+
+    fn least_with_room(
+        lent: &Lent<u8>,
+        offsets: OffsetBox,
+        neutral: u8,
+        tile: Rect,
+        room: &mut [u8],
+        out: &mut [u8],
+    ) {
+        boxes_with_room::<u8, Min>(lent, offsets, neutral, tile, room, out);
+    }
+
+    fn greatest_with_room(
+        lent: &Lent<u8>,
+        offsets: OffsetBox,
+        tile: Rect,
+        room: &mut [u8],
+        out: &mut [u8],
+    ) {
+        boxes_with_room::<u8, Max>(lent, offsets, 0, tile, room, out);
+    }
+
+    fn least_under(
+        alloc: Global,
+        lent: &Lent<u8>,
+        offsets: &[Offset],
+        neutral: u8,
+        tile: Rect,
+        out: &mut [u8],
+    ) -> Result<bool, NoMemory> {
+        offsets_into::<u8, Min>(alloc, lent, offsets, neutral, tile, out)
+    }
+
+    fn greatest_under(
+        alloc: Global,
+        lent: &Lent<u8>,
+        offsets: &[Offset],
+        tile: Rect,
+        out: &mut [u8],
+    ) -> Result<bool, NoMemory> {
+        offsets_into::<u8, Max>(alloc, lent, offsets, 0, tile, out)
+    }
+}
+
+impl Lendable for u16 {
+    fn grey<'a>(f: ArrayImage<'a>) -> Option<&'a [u16]> {
+        match f {
+            ArrayImage::Grey16(f) => Some(f.samples),
+            ArrayImage::Grey8(_) => None,
+            ArrayImage::Pixels(_) => None,
+        }
+    }
+
+    fn least_into(
+        alloc: Global,
+        lent: &Lent<u16>,
+        offsets: OffsetBox,
+        neutral: u16,
+        tile: Rect,
+        out: &mut [u16],
+    ) -> Result<bool, NoMemory> {
+        boxes_into::<u16, Min>(alloc, lent, offsets, neutral, tile, out)
+    }
+
+    fn greatest_into(
+        alloc: Global,
+        lent: &Lent<u16>,
+        offsets: OffsetBox,
+        tile: Rect,
+        out: &mut [u16],
+    ) -> Result<bool, NoMemory> {
+        boxes_into::<u16, Max>(alloc, lent, offsets, 0, tile, out)
+    }
+
+    fn least_with_room(
+        lent: &Lent<u16>,
+        offsets: OffsetBox,
+        neutral: u16,
+        tile: Rect,
+        room: &mut [u16],
+        out: &mut [u16],
+    ) {
+        boxes_with_room::<u16, Min>(lent, offsets, neutral, tile, room, out);
+    }
+
+    fn greatest_with_room(
+        lent: &Lent<u16>,
+        offsets: OffsetBox,
+        tile: Rect,
+        room: &mut [u16],
+        out: &mut [u16],
+    ) {
+        boxes_with_room::<u16, Max>(lent, offsets, 0, tile, room, out);
+    }
+
+    fn least_under(
+        alloc: Global,
+        lent: &Lent<u16>,
+        offsets: &[Offset],
+        neutral: u16,
+        tile: Rect,
+        out: &mut [u16],
+    ) -> Result<bool, NoMemory> {
+        offsets_into::<u16, Min>(alloc, lent, offsets, neutral, tile, out)
+    }
+
+    fn greatest_under(
+        alloc: Global,
+        lent: &Lent<u16>,
+        offsets: &[Offset],
+        tile: Rect,
+        out: &mut [u16],
+    ) -> Result<bool, NoMemory> {
+        offsets_into::<u16, Max>(alloc, lent, offsets, 0, tile, out)
+    }
+}

@@ -1,0 +1,5 @@
+pub mod Parts
+pub mod Places
+pub mod Splits
+pub mod Offsets
+pub mod Layouts

@@ -1,0 +1,3 @@
+-- What `mw_core` offers, for the crates above.
+pub use Rattle.mw_core.specs.TaskAnswers
+pub use Rattle.mw_core.specs.declared
