@@ -22,7 +22,7 @@ except ImportError as missing:
     sys.exit(f"no times of the Python package: {missing} (Debian: apt install python3-numpy)")
 
 import morphd  # noqa: E402
-from morphd import _arrays, _calls, _library, _threads  # noqa: E402
+from morphd import _arrays, _calls, _library, _threads, geodesics  # noqa: E402
 
 # Rounds at least, and for how many seconds short runs go on: a machine that others share is slow for some of them.
 ROUNDS, SECONDS, LONGEST = 5, 0.5, 10.0
@@ -72,6 +72,19 @@ def jobs(image):
     corner = [[0, 0, 0], [0, 1, 1], [0, 1, 0]]
     yield "hit-or-miss of a corner", (lambda workers: morphd.hit_or_miss(image, corner, workers=workers)), \
         {} if ndimage is None else {"SciPy": lambda: ndimage.binary_hit_or_miss(image, np.array(corner))}
+    noise = np.random.default_rng(2).integers(0, 2, image.shape, np.uint8).astype(bool)
+    yield "labels, areas and boxes, discs", *components(image)
+    yield "labels, areas and boxes, noise of 50 %", *components(noise)
+
+
+def components(mask):
+    """What the library tells of a set's components, on which a table's other columns stand, and what the peers tell."""
+    peers, held, field = {}, mask.astype(np.uint8), geodesics.as_set(mask, "components")
+    if cv2 is not None:
+        peers["OpenCV"] = lambda: cv2.connectedComponentsWithStats(held, connectivity=8)
+    if ndimage is not None:
+        peers["SciPy"] = lambda: ndimage.label(mask, np.ones((3, 3)))
+    return (lambda workers: geodesics.regioned(field, morphd.square(3), workers)), peers
 
 
 CV2 = {"erosion": "MORPH_ERODE", "opening": "MORPH_OPEN", "white_tophat": "MORPH_TOPHAT", "gradient": "MORPH_GRADIENT"}

@@ -145,12 +145,14 @@ def who_closes_one_way_hears_replies_that_wait(program):
 
 # ---- work that is wanted no more
 
-# A job that takes many minutes on every machine, of tasks that take a thousandth of a second: the curve of a picture by a round
-# element. The more come behind it, the less of them is read.
+# Work that takes minutes on every machine, by several threads too, of tasks that take a thousandth of a second: curves of a picture by
+# a round element. A FETCH waits for all of them.
 WIDE = b"P5\n2048 2048\n255\n" + bytes(n % 251 for n in range(1 << 22))
 DISC = b"P1\n31 31\n" + b"".join(b"01"[(x - 15) ** 2 + (y - 15) ** 2 <= 240:][:1] for y in range(31) for x in range(31)) + b"\n"
 LONG_GIVEN = b"LOAD f %d\n%sELEMENT d 15 15 %d\n%s" % (len(WIDE), WIDE, len(DISC), DISC)
-LONG_ASKED = b"RUN q SPECTRUM f d 32\nFETCH q\n"
+CURVES = 16
+LONG_ASKED = b"".join(b"RUN q%d SPECTRUM f d 32\n" % n for n in range(CURVES)) + b"FETCH q0\n"
+LONG_TAKEN = b"".join(b"OK %d\n" % (n + 2) for n in range(CURVES))
 CREWS = ((1, 64), (3, 64))
 
 
@@ -198,8 +200,8 @@ def who_computes_too_long_is_cut(program):
                 must_be(patient.ask(b"STATUS x\n")[0], UNKNOWN, "a first reply")
                 begun = time.monotonic()
                 with with_long_work(service) as client:
-                    # Less what was computed before: reading a picture takes some of its time. The reply to RUN may come, and no other.
-                    seconds = seconds_of(lambda: must_be(client.rest() in (b"", b"OK 2\n"), True, "what is heard behind the time of a session"))
+                    # Less what was computed before: reading a picture takes some of its time. Replies to RUN may come, and no other.
+                    seconds = seconds_of(lambda: must_be(LONG_TAKEN.startswith(client.rest()), True, "what is heard behind the time of a session"))
                 must_last(seconds, 1, "a session that computes goes on")
                 time.sleep(max(0.0, begun + 4 - time.monotonic()))
                 patient.send(ERODE + b"QUIT\n")

@@ -9,6 +9,8 @@
 
 #define UNTOUCHED 0xA5
 #define LARGEST 255
+/* Numbers that are written of the components of a chessboard of 4096 x 2048 pixels: seven of each. */
+#define ROOM ((size_t)7 * 4096 * 2048 / 2)
 
 void *__real_malloc(size_t size);
 void *__real_realloc(void *old, size_t size);
@@ -55,7 +57,7 @@ typedef struct {
 
 static uint8_t *bytes, *board, *marker, element[LARGEST * LARGEST], far_pixel[3] = {1, 0, 0};
 static uint16_t *words, *marker_words;
-static uint32_t told, row[7];
+static uint32_t told, *rows;
 
 static void draw(const Case *c) {
     int middle = c->side / 2;
@@ -95,9 +97,9 @@ static int32_t run(const Case *c) {
     case EXTREMA_U8: return morphd_extrema_h_u8(MORPHD_MINIMA, c->number, width, height, 255, bytes, count, ELEMENT, out, count);
     case MINIMA_U16: return morphd_extrema_regional_u16(MORPHD_MINIMA, width, height, 65535, words, count, ELEMENT, out, count);
     case LABEL: return morphd_label_set(width, height, board, count, ELEMENT, (uint32_t *)out, count, &told);
-    case REGIONS: return morphd_regions_set(width, height, board, count, ELEMENT, (uint32_t *)out, count, &told);
+    case REGIONS: return morphd_regions_set(width, height, board, count, ELEMENT, (uint32_t *)out, ROOM, &told);
     case COMPONENTS:
-        return morphd_components_set(width, height, board, count, ELEMENT, (uint32_t *)out, count, row, 7, &told);
+        return morphd_components_set(width, height, board, count, ELEMENT, (uint32_t *)out, count, rows, ROOM, &told);
     case AREA_U8: return morphd_area_u8(c->number, c->k, width, height, 255, bytes, count, ELEMENT, out, count);
     case AREA_U16: return morphd_area_u16(c->number, c->k, width, height, 65535, words, count, ELEMENT, (uint16_t *)out, count);
     case AREA: return morphd_area_set(c->number, width, height, board, count, ELEMENT, out, count);
@@ -123,7 +125,12 @@ static const Case cases[] = {
     {"threshold_u16", THRESHOLD, 300, 0, 4096, 2048, 1, BOX},
     {"opening_u8_box_15", U8, MORPHD_OPEN, 0, 4096, 2048, 15, BOX},
     {"opening_u8_box_255", U8, MORPHD_OPEN, 0, 4096, 2048, 255, BOX},
+    {"opening_u8_disc_31", U8, MORPHD_OPEN, 0, 4096, 2048, 31, DISC},
+    {"opening_u16_disc_15", U16, MORPHD_OPEN, 0, 4096, 2048, 15, DISC},
+    {"closing_u16_disc_63", U16, MORPHD_CLOSE, 0, 4096, 2048, 63, DISC},
+    {"white_top_hat_u8_disc_31", U8, MORPHD_WHITE_TOP_HAT, 0, 4096, 2048, 31, DISC},
     {"white_top_hat_u16_disc_31", U16, MORPHD_WHITE_TOP_HAT, 0, 2048, 2048, 31, DISC},
+    {"black_top_hat_u16_disc_15", U16, MORPHD_BLACK_TOP_HAT, 0, 4096, 2048, 15, DISC},
     {"closing_set_disc_15", SET, MORPHD_CLOSE, 0, 4096, 2048, 15, DISC},
     {"hit_or_miss_u8_box_1", HIT_OR_MISS, 0, 0, 2048, 2048, 1, BOX},
     {"skeleton_2_levels", SKELETON, 2, 0, 2048, 2048, 3, BOX},
@@ -140,7 +147,9 @@ static const Case cases[] = {
     {"regional_minima_u16", MINIMA_U16, 0, 0, 2048, 2048, 3, DISC},
     {"label_four", LABEL, 0, 0, 4096, 2048, 3, DISC},
     {"label_eight", LABEL, 0, 0, 4096, 2048, 3, BOX},
+    {"regions_four", REGIONS, 0, 0, 4096, 2048, 3, DISC},
     {"regions_eight", REGIONS, 0, 0, 4096, 2048, 3, BOX},
+    {"components_four", COMPONENTS, 0, 0, 4096, 2048, 3, DISC},
     {"components_eight", COMPONENTS, 0, 0, 4096, 2048, 3, BOX},
     {"area_opening_u8", AREA_U8, MORPHD_AREA_OPENING, 9, 1024, 1024, 3, BOX},
     {"area_closing_u16", AREA_U16, MORPHD_AREA_CLOSING, 9, 1024, 1024, 3, DISC},
@@ -154,11 +163,12 @@ int main(void) {
     size_t largest = (size_t)8192 * 2048;
     bytes = __real_malloc(largest);
     words = __real_malloc(2 * largest);
-    out = __real_malloc(2 * largest);
+    out = __real_malloc(4 * ROOM);
+    rows = __real_malloc(4 * ROOM);
     board = __real_malloc(largest);
     marker = __real_malloc(largest);
     marker_words = __real_malloc(2 * largest);
-    if (!bytes || !words || !out || !board || !marker || !marker_words) return 1;
+    if (!bytes || !words || !out || !rows || !board || !marker || !marker_words) return 1;
     for (size_t i = 0; i < largest; i++) {
         bytes[i] = i * 2654435761u >> 24 & 127;
         words[i] = i * 2654435761u >> 17;

@@ -2,9 +2,9 @@
 checks/counted_calls.c, and held against what may be.
 
 A call by strips takes what one strip needs, and no more on a picture four times as high; one of rows where they stand a few lines, and a
-filter by a narrow rectangle a strip. Other filters take a plane besides, at one go, and all others a few, however many levels there are. A
-call that asks more often does something anew for each row or strip that it could have kept. All ask before they write the first sample, and
-answer 50 where they get nothing.
+filter of levels one more strip, between its two steps. Filters of sets, and by elements of very many rows, take a plane besides, at one
+go, and all others a few, however many levels there are. A call that asks more often does something anew for each row or strip that it
+could have kept. All ask before they write the first sample, and answer 50 where they get nothing.
 """
 import sys
 
@@ -13,6 +13,7 @@ ASKS = 1.15
 # Of each call: the bytes for each pixel and those besides that it may hold at once; how many times it asked when this was written,
 # which it may exceed by the factor ASKS; and how many bytes it held then.
 STRIP = 2 * MIB
+BETWEEN = 3 * MIB
 MOST = {
     "erosion_u8_box_15": (0, MIB / 8, 8, 25808),
     "erosion_u8_box_15_again": (0, MIB / 8, 8, 25808),
@@ -31,7 +32,13 @@ MOST = {
     "threshold_u16": (0, STRIP, 449, 1966088),
     "opening_u8_box_15": (0, MIB / 2, 12, 347888),
     "opening_u8_box_255": (1, 3 * MIB, 1169, 11134056),
-    "white_top_hat_u16_disc_31": (2, STRIP, 1028, 10361104),
+    "opening_u8_disc_31": (0, BETWEEN, 966, 2679656),
+    "opening_u16_disc_15": (0, BETWEEN, 1094, 2772424),
+    # strips have three times as many rows as the first step makes again
+    "closing_u16_disc_63": (0, 6 * MIB, 716, 5629080),
+    "white_top_hat_u8_disc_31": (0, BETWEEN, 1038, 3078896),
+    "white_top_hat_u16_disc_31": (0, BETWEEN, 642, 3078896),
+    "black_top_hat_u16_disc_15": (0, BETWEEN, 1230, 3074160),
     # the plane has a bit a pixel
     "closing_set_disc_15": (1 / 8, STRIP, 165, 3016376),
     "hit_or_miss_u8_box_1": (4, MIB / 8, 48, 16778288),
@@ -40,8 +47,8 @@ MOST = {
     "skeleton_254_levels": (2.75, 0, 4148, 11066848),
     "restore_254_levels": (1.5, 0, 4214, 5840280),
     "spectrum_u8_32_levels": (4, MIB / 2, 20846, 4372040),
-    # of what grains are measured by 6 bytes are wanted, and 8 of area operators on levels; beside them stand 4 bytes for each level. Regions
-    # of sets with many components are over that
+    # of what grains are measured by 6 bytes are wanted, and 8 of area operators on levels; beside them stand 4 bytes for each level. Under
+    # four neighbours each pixel of the chessboard is a component
     "reconstruction_u8": (6, MIB / 2, 10, 25219680),
     "reconstruction_u16": (6, MIB / 2, 10, 25493608),
     "reconstruction_set": (4.375, MIB / 2, 16, 36708480),
@@ -52,8 +59,10 @@ MOST = {
     "regional_minima_u16": (6, MIB / 2, 12, 25493608),
     "label_four": (4.25, MIB / 2, 10, 34676848),
     "label_eight": (4.25, MIB / 2, 10, 34676864),
-    "regions_eight": (4.25, MIB / 2, 11, 34676864),
-    "components_eight": (4.25, MIB / 2, 11, 34676864),
+    "regions_four": (4.25, MIB / 2, 10, 34676848),
+    "regions_eight": (4.25, MIB / 2, 10, 34676864),
+    "components_four": (4.25, MIB / 2, 10, 34676848),
+    "components_eight": (4.25, MIB / 2, 10, 34676864),
     "area_opening_u8": (8, MIB / 2, 7, 8389736),
     "area_closing_u16": (8, MIB / 2, 7, 8650840),
     "area_set": (6, MIB / 2, 11, 50339912),

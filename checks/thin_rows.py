@@ -4,8 +4,8 @@
     python3 checks/thin_rows.py [--test]
 
 `rt` sums up the sources below a crate along every path of rows, so an entry that another entry of its row reaches costs time in
-each crate above. Rows of libraries have no such entry but `mw_model`, whose words all crates use, `mw_grid`, whose words many use, and
-`mw_step_task`, whose steps who shares out tasks has to tell apart. On static libraries, crates of tests and leaves for wrong bodies (edits_*) nothing stands, and on some libraries only such crates
+each crate above. Rows of libraries have no such entry but `mw_model`, whose words all crates use, `mw_grid`, whose words many use,
+`mw_element_runs`, by whose runs an element is counted, and `mw_step_task`, whose steps who shares out tasks has to tell apart. On static libraries, crates of tests and leaves for wrong bodies (edits_*) nothing stands, and on some libraries only such crates
 or libraries of that kind, so these rows name what they use. With --test it looks at rows that are spoiled.
 """
 import os
@@ -13,7 +13,7 @@ import sys
 
 ROOT = os.path.dirname(os.path.dirname(os.path.realpath(__file__)))
 # What a row may name beside the crates that reach it.
-ALWAYS = ("mw_model", "mw_grid", "mw_step_task")
+ALWAYS = ("mw_model", "mw_grid", "mw_element_runs", "mw_step_task")
 
 
 def rows_of(text):

@@ -45,6 +45,10 @@ out : ndarray, optional
 workers : int, optional
     How many threads share the rows; -1 is one for each processor that this process may use. The result is the same. An
     interrupt is raised when the threads have ended what they had begun.""",
+    "bands": """\
+workers : int, optional
+    How many threads share the rows; -1 is one for each processor that this process may use. Bands are labelled by the library, whose
+    call is proved, and joined by NumPy, which is tested; the result is the same.""",
     "around": """\
 footprint : Footprint or array_like, optional
     Which pixels hang together: p with those at p + b, b in the footprint. The square of 3 x 3 if left out, as scikit-image has

@@ -188,21 +188,21 @@ class Distances(Whole):
         return f"{_METRICS[self.metric]} distances"
 
 
-def labels(field: Field, footprint: Footprint) -> tuple[Samples, int]:
+def labels(field: Field, footprint: Footprint, out: Samples) -> tuple[Samples, int]:
     """The labels of a set, from 1 by the first places of its components, and how many they are."""
-    out, count = np.empty(field.samples.shape, np.uint32), np.zeros(1, np.uint32)
+    count = np.zeros(1, np.uint32)
     arguments = (*_arguments(field, footprint, out), count.ctypes.data)
     ready_with("morphd_label_set", lambda: f"labels by {footprint!r} of {field}", arguments, field.samples, out, count)()
     return out, int(count[0])
 
 
-def regions(field: Field, footprint: Footprint) -> tuple[Samples, Samples]:
+def regions(field: Field, footprint: Footprint, out: Samples) -> tuple[Samples, Samples]:
     """The labels of a set, and a row of the numbers of `REGION` for each of its components, by their first places.
 
-    There is room at first for a component in 16 pixels. Of a set that has more of them the library tells how many there are, and is
-    asked once more.
+    There is room at first for a component in 8 pixels; memory is taken for those that are found. Of a set that has more of them the
+    library tells how many there are, and is asked once more.
     """
-    out, found = np.empty(field.samples.shape, np.uint32), np.zeros(1, np.uint32)
+    found = np.zeros(1, np.uint32)
 
     def asked() -> str:
         return f"regions by {footprint!r} of {field}"
@@ -213,7 +213,7 @@ def regions(field: Field, footprint: Footprint) -> tuple[Samples, Samples]:
         ready_with("morphd_components_set", asked, arguments, field.samples, out, rows, found)()
         return rows[: int(found[0])]
 
-    most = field.samples.size // 16 + 16
+    most = field.samples.size // 8 + 16
     try:
         return out, rows_of(most).copy()
     except Refused:

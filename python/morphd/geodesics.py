@@ -20,11 +20,12 @@ from typing import Any, Literal, NamedTuple, Union, overload
 import numpy as np
 from numpy.typing import ArrayLike, NDArray
 
-from . import _arrays, _geodesic_calls, _library
+from . import _arrays, _geodesic_calls, _joined, _library
 from ._calls import Field, Samples
 from ._docs import COMPUTES, FILLS, documented
 from ._geodesic_calls import Cleared, ClearedBand, Cut, Distances, Filled, Regional, Whole
 from ._numbers import whole, word
+from ._threads import worker_count
 from ._work import Array, Options, Work, made_of, plane_axes, planes
 from .errors import Refused
 from .footprints import Footprint, diamond, square
@@ -577,20 +578,26 @@ def local_minima(
 
 
 @overload
-def label(mask: ArrayLike, connectivity: int | None = None, return_num: Literal[False] = False) -> NDArray[np.int32]: ...
+def label(
+    mask: ArrayLike, connectivity: int | None = None, return_num: Literal[False] = False, *, workers: int | None = None,
+) -> NDArray[np.int32]: ...
 
 
 @overload
-def label(mask: ArrayLike, connectivity: int | None = None, *, return_num: Literal[True]) -> tuple[NDArray[np.int32], int]: ...
+def label(
+    mask: ArrayLike, connectivity: int | None = None, *, return_num: Literal[True], workers: int | None = None,
+) -> tuple[NDArray[np.int32], int]: ...
 
 
 @overload
-def label(mask: ArrayLike, connectivity: int | None, return_num: Literal[True]) -> tuple[NDArray[np.int32], int]: ...
+def label(
+    mask: ArrayLike, connectivity: int | None, return_num: Literal[True], *, workers: int | None = None,
+) -> tuple[NDArray[np.int32], int]: ...
 
 
 @documented()
 def label(
-    mask: ArrayLike, connectivity: int | None = None, return_num: bool = False,
+    mask: ArrayLike, connectivity: int | None = None, return_num: bool = False, *, workers: int | None = None,
 ) -> NDArray[np.int32] | tuple[NDArray[np.int32], int]:
     """A number for each component of a set.
 
@@ -600,6 +607,7 @@ def label(
     %(connectivity)s
     return_num : bool, optional
         Whether the number of components is given, too.
+    %(bands)s
 
     Returns
     -------
@@ -635,23 +643,23 @@ def label(
     3
     """
     b, field = neighbours(connectivity), as_set(mask, "label")
-    labels, count = labelled(field, b)
+    labels, count = labelled(field, b, worker_count(workers))
     return (labels, count) if return_num else labels
 
 
-def labelled(field: Field, footprint: Footprint) -> tuple[NDArray[np.int32], int]:
+def labelled(field: Field, footprint: Footprint, workers: int) -> tuple[NDArray[np.int32], int]:
     """The labels of a set, and how many there are."""
     if not field.samples.size:
         return np.zeros(field.samples.shape, np.int32), 0
-    labels, count = _geodesic_calls.labels(field, footprint)
+    labels, count = _joined.labels(field, footprint, workers)
     return labels.view(np.int32), count
 
 
-def regioned(field: Field, footprint: Footprint) -> tuple[NDArray[np.int32], NDArray[np.uint32]]:
+def regioned(field: Field, footprint: Footprint, workers: int) -> tuple[NDArray[np.int32], NDArray[np.uint32]]:
     """The labels of a set, and a row of what is told of each component."""
     if not field.samples.size:
         return np.zeros(field.samples.shape, np.int32), np.zeros((0, len(_geodesic_calls.REGION)), np.uint32)
-    labels, rows = _geodesic_calls.regions(field, footprint)
+    labels, rows = _joined.regions(field, footprint, workers)
     return labels.view(np.int32), rows
 
 

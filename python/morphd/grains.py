@@ -28,6 +28,7 @@ from numpy.typing import ArrayLike, NDArray
 
 from . import _arrays, _geodesic_calls, _measures
 from ._docs import documented
+from ._threads import worker_count
 from .errors import Refused
 from .geodesics import as_set, neighbours, regioned
 from .pixels import pixel_size
@@ -392,7 +393,7 @@ def _checked_image(intensity: Any, shape: tuple[int, ...]) -> Column:
 @documented()
 def regions(
     mask: ArrayLike | None = None, *, connectivity: int | None = None, pixel: float | str | tuple[float, str] | None = None,
-    intensity: ArrayLike | None = None, labels: ArrayLike | None = None,
+    intensity: ArrayLike | None = None, labels: ArrayLike | None = None, workers: int | None = None,
 ) -> Regions:
     """A table of the components of a set, or of grains that have labels: places, areas and other measures of each.
 
@@ -409,6 +410,8 @@ def regions(
     labels : array_like of int, optional
         In the place of `mask`, the number of the grain at each pixel, as `split_grains`, `watershed` and `label` give it: 0 where there is
         none. Each other number is a grain, whether it hangs together or not.
+    %(bands)s
+        What else is measured is measured by one.
 
     Returns
     -------
@@ -448,7 +451,7 @@ def regions(
     >>> grains["feret_max"]
     array([1.41421356, 0.70710678])
     """
-    b, (size, unit) = neighbours(connectivity), pixel_size(1 if pixel is None else pixel)
+    b, (size, unit), threads = neighbours(connectivity), pixel_size(1 if pixel is None else pixel), worker_count(workers)
     if (mask is None) == (labels is None):
         raise TypeError("regions takes a mask, or labels")
     if labels is not None:
@@ -459,7 +462,7 @@ def regions(
         return _by_labels(held_labels, image, size, unit)
     field = as_set(mask, "regions")
     image = None if intensity is None else _checked_image(intensity, field.samples.shape)
-    made, told = regioned(field, b)
+    made, told = regioned(field, b, threads)
     held: dict[str, Column] = {"label": np.arange(1, len(told) + 1), **dict(zip(_geodesic_calls.REGION, told.T.astype(np.int64)))}
     held.update(_measured(held, made, _measures.runs_of(made), image))
     return Regions(held, made, size, unit)

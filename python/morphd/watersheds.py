@@ -138,7 +138,7 @@ def _markers_of(markers: Any, field: Field, is_in: Set, footprint: Footprint) ->
     """The labels at the start."""
     if markers is None:
         minima = Regional(_library.MINIMA, footprint).made(field, None)
-        return labelled(Field(minima * is_in, 1, True), footprint)[0]
+        return labelled(Field(minima * is_in, 1, True), footprint, 1)[0]
     if np.ndim(markers) == 0:
         count = whole(markers, "markers")
         if count < 1:
@@ -241,14 +241,14 @@ def split_grains(mask: ArrayLike, h: float = 1.0, connectivity: int | None = Non
         return np.zeros(field.samples.shape, np.int32)
     levels = _distances(field)
     if fall >= levels.max():
-        return labelled(field, b)[0]
+        return labelled(field, b, 1)[0]
     is_in = field.samples != 0
     raised = np.where(is_in, np.minimum(levels, _LEVELS - 1 - fall) + np.uint16(fall), np.uint16(0))
     domes = Field(raised, _LEVELS - 1, False)
     if fall:
         domes = domes._replace(samples=Cut(_library.MAXIMA, fall, b).made(domes, None))
     middles = Field(Regional(_library.MAXIMA, b).made(domes, None), 1, True)
-    labels = flooded(levels.max() - levels, labelled(middles, b)[0], is_in, _offsets(CROSS))
+    labels = flooded(levels.max() - levels, labelled(middles, b, 1)[0], is_in, _offsets(CROSS))
     if (is_in & (labels == 0)).any():
         # the parts without a middle, which hang on others by corners
         labels = flooded(levels.max() - levels, labels, is_in, _offsets(b))

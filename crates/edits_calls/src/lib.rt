@@ -10,4 +10,4 @@ mod strips;
 
 pub use arrays::flat_u8;
 pub use images::apply;
-pub use strips::slide_rows_into;
+pub use strips::write_plan_rows;

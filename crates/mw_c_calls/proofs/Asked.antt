@@ -1,6 +1,6 @@
 -- What plans ask of an image and an element, by the numbers of refusals.
 use Rattle.std.proofs.Common.{◌≡◌, ℕ, Bool, true, false, not, ◌&&◌, List, [], ◌∷◌, length, Option, None, refl, ap, subst, sym, Global}
-use Rattle.std.specs.Prelude.{nat_le, option_map, Err}
+use Rattle.std.specs.Prelude.{nat_le, option_map, Err, Ok}
 use Rattle.std.specs.Arc.{arc_value}
 use Rattle.std.specs.Borrow.{Bor}
 use Rattle.std.specs.declared.sync.Arc.{Arc}
@@ -12,6 +12,7 @@ use Rattle.mw_model.specs.declared.operations.GranOp.TheVariants as gran
 use Rattle.mw_model.specs.declared.operations.Op.{Op}
 use Rattle.mw_model.specs.declared.operations.Op.TheVariants as op
 use Rattle.mw_model.specs.declared.offsets.Offset.{Offset}
+use Rattle.mw_model.specs.declared.shapes.Shape.{Shape}
 use Rattle.mw_model.specs.Elements.{Figure, holds_origin, overlaps}
 use Rattle.mw_model.specs.Pictures.{Picture}
 use Rattle.mw_model.specs.Refusals.{first_of, is_binary, when}
@@ -21,13 +22,12 @@ use Rattle.mw_plan.specs.Faults.{plan_code}
 use Rattle.mw_plan.specs.declared.faults.PlanFault.{PlanFault}
 use Rattle.mw_plan.specs.declared.faults.PlanFault.TheVariants as fault
 use Rattle.mw_plan.specs.declared.inputs.Input.TheVariants as input
-use Rattle.mw_c_direct.specs.declared.applying.Made.{Made}
 use Rattle.mw_c_arrays.specs.declared.arrays.Bitmap.{Bitmap}
 use Rattle.mw_c_arrays.specs.Arrays.{element_in}
 use Rattle.mw_c_calls.specs.Answers.{IsTold}
 use Rattle.mw_c_calls.specs.Calls.{operation_fault, overlap_case, takes_one}
 use Rattle.mw_c_calls.specs.Sources.{bitmap_figure}
-use Rattle.mw_c_calls.proofs.Told.{told_err}
+use Rattle.mw_c_calls.proofs.Told.{told_err, told_ok}
 
 -- one thing that is asked, and others behind it
 asked_first : (x : Bool) (f : PlanFault) (fs : List (Option PlanFault)) (cs : List (Option Code)) → option_map plan_code (first_fault fs) ≡ first_of cs
@@ -67,11 +67,20 @@ pub asked_by_two : (f hit miss : Name) (g : Picture) (b c : Bor (Arc Figure Glob
 asked_by_two f hit miss g b c = overlap_asked (overlaps (arc_value b.now).offsets (arc_value c.now).offsets)
 
 -- the fault of a plan by one element is told by its number
-pub asked_told : (o : Op) (image f : Picture) (e : Bor (Arc Figure Global)) (b : Bitmap) (fault : PlanFault) (told : Code) → takes_one o ≡ true → image ≡ f → arc_value e.now ≡ bitmap_figure b → told ≡ plan_code fault
-    → IsRefusedBy {A = Made} (fault_in o (input.Image (shape_of_picture image)) (input.Element e) input.Absent) (Err fault) → IsTold {A = Made} None (operation_fault o f (element_in b)) (Err told)
-asked_told o image f e b fault told one same_image same_element same_code refused =
-    let asked = asked_by_one o image e one in
-    let first = told_err Made Made (fault_in o (input.Image (shape_of_picture image)) (input.Element e) input.Absent) (operation_fault o image (arc_value e.now).offsets) fault asked refused in
-    subst (λ (x : Code). IsTold {A = Made} None (operation_fault o f (element_in b)) (Err x)) (sym same_code)
-    (subst (λ (t : List Offset). IsTold {A = Made} None (operation_fault o f t) (Err (plan_code fault))) (ap (λ (u : Figure). u.offsets) same_element)
-    (subst (λ (g : Picture). IsTold {A = Made} None (operation_fault o g (arc_value e.now).offsets) (Err (plan_code fault))) same_image first))
+pub asked_told : (A B : Type 0) (o : Op) (s : Shape) (f : Picture) (e : Bor (Arc Figure Global)) (b : Bitmap) (fault : PlanFault) (told : Code) → takes_one o ≡ true → s ≡ shape_of_picture f → arc_value e.now ≡ bitmap_figure b → told ≡ plan_code fault
+    → IsRefusedBy {A = A} (fault_in o (input.Image s) (input.Element e) input.Absent) (Err fault) → IsTold {A = B} None (operation_fault o f (element_in b)) (Err told)
+asked_told A B o s f e b fault told one same_shape same_element same_code refused =
+    let asked = asked_by_one o f e one in
+    let own = subst (λ (t : Shape). IsRefusedBy {A = A} (fault_in o (input.Image t) (input.Element e) input.Absent) (Err fault)) same_shape refused in
+    let first = told_err A B (fault_in o (input.Image (shape_of_picture f)) (input.Element e) input.Absent) (operation_fault o f (arc_value e.now).offsets) fault asked own in
+    subst (λ (x : Code). IsTold {A = B} None (operation_fault o f (element_in b)) (Err x)) (sym same_code)
+    (subst (λ (t : List Offset). IsTold {A = B} None (operation_fault o f t) (Err (plan_code fault))) (ap (λ (u : Figure). u.offsets) same_element) first)
+
+-- and where there is a plan nothing is missed
+pub asked_ok : {A B : Type 0} (o : Op) (s : Shape) (f : Picture) (e : Bor (Arc Figure Global)) (b : Bitmap) (x : A) (y : B) → takes_one o ≡ true → s ≡ shape_of_picture f → arc_value e.now ≡ bitmap_figure b
+    → IsRefusedBy (fault_in o (input.Image s) (input.Element e) input.Absent) (Ok x) → IsTold None (operation_fault o f (element_in b)) (Ok y)
+asked_ok {A} {B} o s f e b x y one same_shape same_element refused =
+    let asked = asked_by_one o f e one in
+    let own = subst (λ (t : Shape). IsRefusedBy {A = A} (fault_in o (input.Image t) (input.Element e) input.Absent) (Ok x)) same_shape refused in
+    subst (λ (t : List Offset). IsTold {A = B} None (operation_fault o f t) (Ok y)) (ap (λ (u : Figure). u.offsets) same_element)
+    (told_ok (fault_in o (input.Image (shape_of_picture f)) (input.Element e) input.Absent) (operation_fault o f (arc_value e.now).offsets) x y asked own)

@@ -5,5 +5,6 @@ mod BitmapElements
 mod Meant
 mod OneStep
 mod Passed
+mod Planned
 mod Sized
 mod Told

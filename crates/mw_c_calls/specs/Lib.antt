@@ -3,4 +3,3 @@ pub mod CallAnswers
 pub mod Calls
 pub mod Rows
 pub mod Sources
-pub mod Ways

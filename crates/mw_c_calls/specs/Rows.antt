@@ -1,11 +1,9 @@
 -- Calls for some rows of what a flat operator of one step makes, and what is wrong with them.
-use Rattle.std.specs.Prelude.{ℕ, ◌==◌, ◌||◌, Bool, true, false, not, Option}
+use Rattle.std.specs.Prelude.{ℕ, ◌==◌, ◌||◌, Bool, not, Option}
 use Rattle.mw_model.specs.declared.codes.Code.{Code}
 use Rattle.mw_model.specs.declared.codes.Code.TheVariants as code
 use Rattle.mw_model.specs.Refusals.{when}
 use Rattle.mw_c_strips.specs.Rows.{are_rows}
-use Rattle.mw_c_calls.specs.declared.ways.Way.{Way}
-use Rattle.mw_c_calls.specs.declared.ways.Way.TheVariants as way
 
 -- the flat operator of the number has one step: an erosion, a dilation, a gradient or a rank
 abbrev pub has_one_step : ℕ → Bool
@@ -18,9 +16,3 @@ row_operation_case operation = when (not (has_one_step operation)) code.Param
 -- the caller's array has not the places of rows from row `first` on of an image of this width and so many samples
 abbrev pub rows_case : ℕ → ℕ → ℕ → ℕ → Option Code
 rows_case first room width count = when (not (are_rows first room width count)) code.Length
-
--- the way has one step
-abbrev pub is_one_step : Way → Bool
-is_one_step (way.Filter extremum) = false
-is_one_step (way.Residue extremum) = false
-is_one_step w = true

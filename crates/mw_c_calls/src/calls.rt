@@ -13,11 +13,12 @@ ghost use Rattle.mw_c_calls.specs.Calls.{call_fault, flat_asks, flat_of, no_orig
 ghost use Rattle.mw_c_calls.specs.Sources.{LevelsStandIn};
 
 use crate::making::{drawn_by, hits_of, measured_by};
-use crate::operations::name;
-use crate::ways::{way_of, write_by};
+use crate::operations::{name, operation_of};
+use crate::thresholding::write_threshold;
+use crate::writing::write_by;
 use mw_c_arrays::{ArrayImage, Bitmap, Code, NoMemory, Set, first_of, when};
 use mw_c_direct::{Curve, GranOp, Image, Op};
-use mw_c_strips::{Sample, threshold_into};
+use mw_c_strips::Sample;
 use mw_model::{LEVEL_LIMIT, SIZE_LIMIT, TURN_LIMIT};
 use std::alloc::Global;
 
@@ -67,7 +68,7 @@ pub(crate) fn flat<P: Sample>(
     if let Some(code) = refused(number, image, room, b.fault()) {
         return Err(code);
     }
-    write_by(alloc, way_of(operation, k), f, b, out)
+    write_by(alloc, &operation_of(operation, k), f, b, out)
 }
 
 /// Writes a threshold.
@@ -82,7 +83,7 @@ pub(crate) fn upper(alloc: Global, k: u32, f: ArrayImage<'_>, out: &mut [u8]) ->
     if let Some(code) = refused(number, image, room, None) {
         return Err(code);
     }
-    match threshold_into(alloc, k, f, out) {
+    match write_threshold(alloc, k, f, out) {
         Ok(()) => Ok(()),
         Err(NoMemory) => Err(Code::Memory),
     }

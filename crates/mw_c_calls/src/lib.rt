@@ -21,12 +21,13 @@ mod hits;
 mod making;
 mod numbered;
 mod operations;
+mod plans;
 mod residues;
 mod row_calls;
-mod row_ways;
 mod spectra;
+mod thresholding;
 mod thresholds;
-mod ways;
+mod writing;
 
 pub use flat::{flat_set, flat_u8, flat_u16};
 pub use flat_rows::{flat_rows_set, flat_rows_u8, flat_rows_u16};

@@ -10,8 +10,8 @@ ghost use Rattle.mw_c_calls.specs.Calls.{call_fault, flat_asks, flat_of};
 ghost use Rattle.mw_c_calls.specs.Rows.{has_one_step, row_operation_case, rows_case};
 
 use crate::calls::refused;
-use crate::row_ways::write_rows_by;
-use crate::ways::way_of;
+use crate::operations::operation_of;
+use crate::writing::write_rows_by;
 use mw_c_arrays::{ArrayImage, Bitmap, Code, when};
 use mw_c_strips::{Sample, are_rows};
 use std::alloc::Global;
@@ -46,5 +46,5 @@ pub(crate) fn flat_rows<P: Sample>(
     if let Some(code) = refused(number, image, room, b.fault()) {
         return Err(code);
     }
-    write_rows_by(alloc, way_of(operation, k), f, b, first, out)
+    write_rows_by(alloc, &operation_of(operation, k), f, b, first, out)
 }

@@ -8,7 +8,7 @@ use Rattle.mw_geodesic.specs.Paths.{Joined, ends, goes, AreConnected, point}
 use Rattle.mw_geodesic.proofs.Geodesic.{IsClosed, spread_least, reconstruction_closed, only_reconstruction}
 use Rattle.mw_geodesic.proofs.Reconstructed.{rebuilt_shape, rebuilt_size, rebuilt_above}
 use Rattle.mw_geodesic_labels.specs.declared.regions.Region.{Region}
-use Rattle.mw_geodesic_labels.specs.Regions.{AreRegionsOf, AreRegionsWithLabels}
+use Rattle.mw_geodesic_labels.specs.Regions.{AreRegionsOf, AreRegionsTold, AreRegionsWithLabels}
 use Rattle.mw_c_geodesic.specs.Alike.{CoverAlike, CoversOthers}
 
 pub turned : (e e' : List Offset) → CoverAlike e e' → CoverAlike e' e
@@ -60,10 +60,20 @@ labelling_alike e e' f count labels alike are = record {
 pub regions_alike : (e e' : List Offset) (f : Picture) (regions : List Region) → CoverAlike e e' → AreRegionsOf e' f regions → AreRegionsOf e f regions
 regions_alike e e' f regions alike are = record { labels = are.labels; labelling = labelling_alike e e' f (length regions) are.labels alike are.labelling; each = are.each }
 
--- the same regions, and the same labels
-pub regions_with_labels_alike : (e e' : List Offset) (f : Picture) (most : ℕ) (old new : List ℕ) (regions : List Region) → CoverAlike e e' → AreRegionsWithLabels e' f most old new regions → AreRegionsWithLabels e f most old new regions
-regions_with_labels_alike e e' f most old new regions alike are = record {
-  are = regions_alike e e' f regions alike are.are;
-  labels = λ le. labelling_alike e e' f (length regions) new alike (are.labels le);
+-- the same is told of them
+pub told_alike : (e e' : List Offset) (f : Picture) (count : ℕ) (old new : List ℕ) → CoverAlike e e' → AreRegionsTold e' f count old new → AreRegionsTold e f count old new
+told_alike e e' f count old new alike told = record {
+  components = record { labels = told.components.labels; labelling = labelling_alike e e' f count told.components.labels alike told.components.labelling };
+  written = λ le.
+      let was = told.written le in
+      record { regions = was.regions; are = regions_alike e e' f was.regions alike was.are; counted = was.counted; written = was.written };
+  unwritten = told.unwritten;
+}
+
+-- the same is told of them, and the same labels
+pub told_with_labels_alike : (e e' : List Offset) (f : Picture) (count : ℕ) (old_rows rows old new : List ℕ) → CoverAlike e e' → AreRegionsWithLabels e' f count old_rows rows old new → AreRegionsWithLabels e f count old_rows rows old new
+told_with_labels_alike e e' f count old_rows rows old new alike are = record {
+  told = told_alike e e' f count old_rows rows alike are.told;
+  labels = λ le. labelling_alike e e' f count new alike (are.labels le);
   unlabelled = are.unlabelled;
 }

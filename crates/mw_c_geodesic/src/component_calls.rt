@@ -48,10 +48,10 @@ pub fn components_set(
         origin_x: element_x,
         origin_y: element_y,
     };
-    let most = regions.len() / 7;
+    let room = regions.len();
     answer_regions(
-        measured(alloc, image, &element, most, out),
-        regions,
+        measured(alloc, image, &element, regions, out),
+        room,
         components,
     )
 }

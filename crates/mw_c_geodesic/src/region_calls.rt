@@ -45,5 +45,6 @@ pub fn regions_set(
         origin_x: element_x,
         origin_y: element_y,
     };
-    answer_regions(regions(alloc, image, &element), out, components)
+    let room = out.len();
+    answer_regions(regions(alloc, image, &element, out), room, components)
 }

@@ -109,7 +109,8 @@ pub(crate) fn regions_told(
     requires low { height ≤ SIDE_LIMIT }
     requires size { length labels.now ≡ height * width }
     requires few { height * width < 2 ^ 32 - 1 }
-    ensures { IfOk result (λ r. (e : List Offset) (f : Picture) → f.width ≡ width → f.height ≡ height → IsLabelling e f count labels.now → AreRegionsOf e f r.items) }
+    ensures size { IfOk result (λ r. length r.items ≡ count) }
+    ensures told { IfOk result (λ r. (e : List Offset) (f : Picture) → f.width ≡ width → f.height ≡ height → IsLabelling e f count labels.now → AreRegionsOf e f r.items) }
 {
     let t = tables_of(alloc, labels, count, width, height)?;
     let regions = regions_in(alloc, &t, count, width, height)?;

@@ -4,5 +4,8 @@ pub mod Steps
 pub mod Written
 -- the crate's own
 mod Slid
+mod Stood
+mod Narrowed
+mod Lessened
 mod Views
 mod UnderBoxes

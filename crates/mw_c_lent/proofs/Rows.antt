@@ -15,7 +15,7 @@ use Rattle.mw_c_lent.specs.Rows.{EndAt, IsStrip, rows_from}
 pub get_or-range : {A : Type 0} (xs : List A) (a n i : ℕ) (d : A) → i < n → get_or (slice_range xs a (a + n)) i d ≡ get_or xs (a + i) d
 get_or-range xs a n i d lt = get_or-take (a + n - a) (drop a xs) i d (omega arith) ∙ get_or-drop a xs i d
 
-length-range : {A : Type 0} (xs : List A) (a n : ℕ) → a + n ≤ length xs → length (slice_range xs a (a + n)) ≡ n
+pub length-range : {A : Type 0} (xs : List A) (a n : ℕ) → a + n ≤ length xs → length (slice_range xs a (a + n)) ≡ n
 length-range xs a n le = omega (arith, length-take (a + n - a) (drop a xs), length-drop a xs)
 
 -- the rows of a strip end within the image

@@ -2,18 +2,16 @@
 use Rattle.std.proofs.Common.{◌≡◌, ℕ, pos, ◌+ℤ◌, ◌≤ℤ◌, ◌+◌, ◌-◌, ◌*◌, ◌<◌, ◌≤◌, min, List, map, length, refl, ap, sym, arith, ◌∙◌}
 use Rattle.std.proofs.lemmas.Int.{ints}
 use Rattle.std.proofs.lemmas.Nat.{mul-le}
-use Rattle.mw_model.specs.declared.offsets.Offset.{Offset}
 use Rattle.mw_model.specs.declared.offsets.OffsetBox.{OffsetBox}
 use Rattle.mw_model.specs.declared.offsets.Reach.{Reach}
 use Rattle.mw_model.specs.declared.offsets.Rect.{Rect}
-use Rattle.mw_model.specs.Flat.{dilation, erosion, greatest, least, under}
+use Rattle.mw_model.specs.Flat.{greatest, least, under}
 use Rattle.mw_model.specs.Laws.{SameShape}
 use Rattle.mw_model.specs.Pictures.{Picture, sample}
 use Rattle.mw_model.specs.Rectangles.{IsWithin, Leads, WithinReach, box_offsets, grown}
 use Rattle.mw_model.specs.Tasks.{cells_in}
 use Rattle.mw_model.specs.Windows.{View, seen_at}
-use Rattle.mw_model.proofs.ImagePlaces.{drawn_same, length-rows, sample-redrawn}
-use Rattle.mw_element.specs.Figures.{FillsBox}
+use Rattle.mw_model.proofs.ImagePlaces.{length-rows, sample-redrawn}
 use Rattle.mw_line_lent.specs.Near.{StandsInside}
 use Rattle.mw_tile.specs.Cuts.{view_of}
 use Rattle.mw_grid.specs.Rectangles.{whole_frame}
@@ -25,19 +23,14 @@ use Rattle.mw_c_lent.specs.Boxes.{IsMadeUnder}
 use Rattle.mw_c_lent.specs.InPlace.{IsWholeView}
 use Rattle.mw_c_lent.specs.Rows.{IsStrip}
 use Rattle.mw_c_lent.specs.Slides.{AreFrameRows, slide_box, slide_picture, slide_value, steps_picture}
+use Rattle.mw_c_lent.specs.Standing.{seen_from, seen_to}
 use Rattle.mw_c_lent.proofs.Rows.{read_strip}
-use Rattle.mw_c_lent.proofs.UnderBoxes.{greatest_box, least_box, made_shown, made_whole}
+use Rattle.mw_c_lent.proofs.UnderBoxes.{made_shown}
 use Rattle.mw_c_lent.proofs.Views.{levels_window, rows_window}
 
 -- ---- one extremum
 
-pub least_slid : (box : OffsetBox) (e : List Offset) (f : Picture) → FillsBox box e → erosion (box_offsets box) f ≡ erosion e f
-least_slid box e f fills = drawn_same f.kind f.width f.height f.maxval (λ x y. least f.maxval (under f (box_offsets box) x y)) (λ x y. least f.maxval (under f e x y)) (λ x y across down. least_box f.maxval f box e fills x y)
-
-pub greatest_slid : (box : OffsetBox) (e : List Offset) (f : Picture) → FillsBox box e → dilation (box_offsets box) f ≡ dilation e f
-greatest_slid box e f fills = drawn_same f.kind f.width f.height f.maxval (λ x y. greatest (under f (box_offsets box) x y)) (λ x y. greatest (under f e x y)) (λ x y across down. greatest_box f box e fills x y)
-
-slide_there : (s : Slide) (top : ℕ) (f : Picture) (x y : ℕ) → f.maxval ≡ top → x < f.width → y < f.height → slide_value top s (under f (box_offsets (slide_box s)) x y) ≡ sample (slide_picture s f) x y
+pub slide_there : (s : Slide) (top : ℕ) (f : Picture) (x y : ℕ) → f.maxval ≡ top → x < f.width → y < f.height → slide_value top s (under f (box_offsets (slide_box s)) x y) ≡ sample (slide_picture s f) x y
 slide_there (slide.Least b) top f x y is across down =
     ap (λ (t : ℕ). least t (under f (box_offsets b) x y)) (sym is) ∙ sym (sample-redrawn f (λ u v. least f.maxval (under f (box_offsets b) u v)) x y across down)
 slide_there (slide.Greatest b) top f x y is across down = sym (sample-redrawn f (λ u v. greatest (under f (box_offsets b) u v)) x y across down)
@@ -51,7 +44,7 @@ slide_size (slide.Least b) f = length-rows (λ x y. least f.maxval (under f (box
 slide_size (slide.Greatest b) f = length-rows (λ x y. greatest (under f (box_offsets b) x y)) f.width 0 f.height
 
 -- a strip of an image is one of an image of the same shape
-alike_strip : (f g : Picture) (r : Rect) → SameShape g f → IsStrip r f → IsStrip r g
+pub alike_strip : (f g : Picture) (r : Rect) → SameShape g f → IsStrip r f → IsStrip r g
 alike_strip f g r shape is = record { left = is.left; wide = is.wide ∙ sym shape.width; some = is.some; low = omega (arith, is.low, shape.height) }
 
 -- ---- two of them
@@ -68,15 +61,13 @@ steps_size s f = slide_size s.second (slide_picture s.first f)
 pub steps_strip : (s : Steps) (f : Picture) (r : Rect) → IsStrip r f → IsStrip r (steps_picture s f)
 steps_strip s f r is = alike_strip f (steps_picture s f) r (steps_shape s f) is
 
-pub steps_made : {A : Type 0} (level : A → ℕ) (w : View A) (f : Picture) (s : Steps) (top : A) (m n : ℕ) (place strip : Rect) (part out : List A) → IsWholeView level w f → f.maxval ≡ level top → m ≡ f.width → n ≡ f.height → IsStrip strip f
-    → place ≡ grown m n s.reach strip → WithinReach s.reach (box_offsets (slide_box s.second)) → IsMadeUnder (slide_value (level top) s.first) level (seen_at w) (box_offsets (slide_box s.first)) place part
+pub steps_made : {A : Type 0} (level : A → ℕ) (f : Picture) (s : Steps) (top : A) (m n : ℕ) (place strip : Rect) (part out : List A) → f.maxval ≡ level top → m ≡ f.width → n ≡ f.height → IsStrip strip f
+    → place ≡ grown m n s.reach strip → WithinReach s.reach (box_offsets (slide_box s.second)) → map level part ≡ cells_in place (sample (slide_picture s.first f))
     → IsMadeUnder (slide_value (level top) s.second) level (seen_at (view_of m n place part)) (box_offsets (slide_box s.second)) strip out → map level out ≡ cells_in strip (sample (steps_picture s f))
-steps_made level w f s top m n place strip part out whole is wide high strip-is place-is reach first second =
+steps_made level f s top m n place strip part out is wide high strip-is place-is reach rows second =
     let g : Picture = slide_picture s.first f in
     let shape = slide_shape s.first f in
     let own : IsStrip place f = rw (place-is) (read_strip m n strip s.reach f wide high strip-is) in
-    let rows : map level part ≡ cells_in place (sample g) =
-    made_whole (slide_value (level top) s.first) level w f g (box_offsets (slide_box s.first)) place part whole own (λ x y across down. slide_there s.first (level top) f x y is across down) first in
     let window = rows_window level g m n place strip s.reach (box_offsets (slide_box s.second)) part (wide ∙ sym shape.width) (high ∙ sym shape.height) (slide_size s.first f) (alike_strip f g place shape own) place-is reach rows in
     made_shown (slide_value (level top) s.second) level (view_of m n place part) g (steps_picture s f) (box_offsets (slide_box s.second)) strip out (alike_strip f g strip shape strip-is)
     (λ i j across down. levels_window level (view_of m n place part) g (box_offsets (slide_box s.second)) strip (slide_size s.first f) window i j across down)
@@ -89,10 +80,13 @@ pub record GrownRows (m n : ℕ) (reach : Reach) (r place : Rect) : Type 0 where
   pub within : IsWithin place m n
   pub across : place.width ≡ m
   pub few : place.height ≤ r.height + (reach.up + reach.down)
+  pub from : place.y ≡ seen_from reach r
+  pub to : place.y + place.height ≡ seen_to n reach r
+  pub rows : AreFrameRows place m n
   pub first : StandsInside (whole_frame m n) place
   pub second : StandsInside place r
 
-pub grown_rows : (m n : ℕ) (reach : Reach) (r place : Rect) → AreFrameRows r m n → place ≡ grown m n reach r → GrownRows m n reach r place
+grown_rows : (m n : ℕ) (reach : Reach) (r place : Rect) → AreFrameRows r m n → place ≡ grown m n reach r → GrownRows m n reach r place
 grown_rows m n reach r place rows is =
     let left : place.x ≡ r.x - reach.left = ap (λ (t : Rect). t.x) is in
     let top : place.y ≡ r.y - reach.up = ap (λ (t : Rect). t.y) is in
@@ -107,9 +101,16 @@ grown_rows m n reach r place rows is =
       within = record { across = omega arith; down = omega arith };
       across = omega arith;
       few = omega arith;
+      from = omega arith;
+      to = omega arith;
+      rows = record { left = omega arith; across = omega arith; some = omega arith; low = omega arith; wide = more };
       first = record { left = omega arith; right = omega arith; top = omega arith; bottom = omega arith; wide = omega arith; some = omega arith };
       second = record { left = omega arith; right = omega arith; top = omega arith; bottom = omega arith; wide = omega arith; some = omega arith };
     }
+
+-- and where the sides have other names
+pub grown_in : (m n a b : ℕ) (reach : Reach) (r place : Rect) → a ≡ m → b ≡ n → AreFrameRows r m n → place ≡ grown a b reach r → GrownRows m n reach r place
+grown_in m n a b reach r place wide high rows is = grown_rows m n reach r place rows (is ∙ ap (λ (t : ℕ). grown t b reach r) wide ∙ ap (λ (t : ℕ). grown m t reach r) high)
 
 -- rows of a frame are a strip of an image of its sides
 pub frame_strip : (m n : ℕ) (r : Rect) (f : Picture) → m ≡ f.width → n ≡ f.height → AreFrameRows r m n → IsStrip r f
@@ -122,9 +123,6 @@ whole_sides {A} level w f whole = (ap (λ (v : View A). v.frame_width) whole.vie
 -- there is room for as many rows
 pub room_for : (a b c w n : ℕ) → a ≤ b + c → (b + c) * w ≤ n → a * w ≤ n
 room_for a b c w n le room = omega (arith, mul-le a w (b + c) w le (omega arith), room)
-
-pub same_frame_rows : (m n o p : ℕ) (r : Rect) → o ≡ m → p ≡ n → AreFrameRows r m n → AreFrameRows r o p
-same_frame_rows m n o p r wide high rows = record { left = rows.left; across = rows.across ∙ sym wide; some = rows.some; low = omega (arith, rows.low, high); wide = omega (arith, rows.wide, wide) }
 
 -- there is room for the rows of a strip where there is for all
 pub strip_fits : (m n count : ℕ) (r : Rect) → AreFrameRows r m n → count ≡ n * m → r.y * r.width + r.height * r.width ≤ count

@@ -1,5 +1,9 @@
 pub mod Boxes
 pub mod InPlace
+pub mod Levels
+pub mod Narrow
+pub mod Recipes
 pub mod Rows
 pub mod Rules
 pub mod Slides
+pub mod Standing

@@ -12,6 +12,8 @@ use Rattle.mw_c_lent.specs.declared.rules.Rule.TheVariants as rule
 abbrev pub step_of : Rule → PlanStep
 step_of (rule.Least e) = plan.Erode (arc_value e.now).offsets
 step_of (rule.Greatest e) = plan.Dilate (arc_value e.now).offsets
+step_of (rule.LeastBox b) = plan.ErodeBox b
+step_of (rule.GreatestBox b) = plan.DilateBox b
 step_of (rule.Nth e k) = plan.Rank (arc_value e.now).offsets k
 step_of (rule.AtLeast k) = plan.AtLeast k
 

@@ -5,7 +5,7 @@
 ghost use Rattle.std.specs.Prelude.{◌≡◌, ◌+◌, ◌*◌, ◌<◌, ◌≤◌, [], ◌∷◌, length, map, IfErr, IfOk, IfSome, false, true};
 ghost use Rattle.mw_model.specs.Pictures.{Picture, sample};
 ghost use Rattle.mw_model.specs.Plans.{plane_of};
-ghost use Rattle.mw_model.specs.PlanSteps.{Dilate, Erode};
+ghost use Rattle.mw_model.specs.PlanSteps.{Dilate, DilateBox, Erode, ErodeBox};
 ghost use Rattle.mw_model.specs.Tasks.{cells_in};
 ghost use Rattle.mw_c_arrays.specs.Sources.{IsArrayImage, picture_in};
 ghost use Rattle.mw_c_lent.specs.InPlace.{AreMiddleRows, IsWholeView};
@@ -44,6 +44,8 @@ fn margins(rule: Rule<'_>) -> (u32, u32) {
         Rule::Nth(element, _) => reach(element),
         Rule::Least(_) => (0, 0),
         Rule::Greatest(_) => (0, 0),
+        Rule::LeastBox(_) => (0, 0),
+        Rule::GreatestBox(_) => (0, 0),
         Rule::AtLeast(_) => (0, 0),
     }
 }
@@ -59,19 +61,6 @@ pub fn middle_of<'a>(rule: Rule<'a>, f: ArrayImage<'a>, first: u32, end: u32) ->
         return None;
     }
     Some(Middle { rule, f, from, to })
-}
-
-/// Wider rectangles are made sooner by strips, which double what they merge, unless they are so tall that most rows would be read by
-/// several strips.
-const WIDEST: i64 = 36;
-
-const TALL: i64 = 128;
-
-/// Whether a full rectangle is made sooner where the rows stand.
-fn is_quick(offsets: OffsetBox) -> bool {
-    let width = i64::from(offsets.x1) - i64::from(offsets.x0) + 1;
-    let height = i64::from(offsets.y1) - i64::from(offsets.y0) + 1;
-    width <= WIDEST || height >= TALL
 }
 
 /// Writes the least under an element of few offsets, in a tile of an image with this maxval.
@@ -116,51 +105,39 @@ fn put_greatest_under<P: Lendable>(
     P::greatest_under(alloc, lent, element.offsets(), tile, out)
 }
 
-/// Writes the least under an element, in a tile of an image with this maxval.
+/// Writes the least under a full rectangle, in a tile of an image with this maxval.
 fn put_least<P: Lendable>(
     alloc: Global,
     lent: &Lent<P>,
-    element: &Element,
+    offsets: OffsetBox,
     maxval: u16,
     tile: Rect,
     out: &mut [P],
 ) -> Result<bool, NoMemory>
     requires room { length out.old ≡ tile.height * tile.width }
-    ensures made { IfOk result (λ done. done ≡ true → (f : Picture) → IsWholeView P.level lent.now f → IsStrip tile f → f.maxval ≡ maxval → map P.level out.new ≡ cells_in tile (sample (plane_of (Erode element.now.offsets) (f ∷ []) f.width f.height))) }
+    ensures made { IfOk result (λ done. done ≡ true → (f : Picture) → IsWholeView P.level lent.now f → IsStrip tile f → f.maxval ≡ maxval → map P.level out.new ≡ cells_in tile (sample (plane_of (ErodeBox offsets) (f ∷ []) f.width f.height))) }
     ensures left_out { IfOk result (λ done. done ≡ false → out.new ≡ out.old) }
     ensures kept { IfErr result (λ _. out.new ≡ out.old) }
 {
-    let Some(offsets) = element.as_rectangle() else {
-        return put_least_under(alloc, lent, element, maxval, tile, out);
-    };
-    if !is_quick(offsets) {
-        return Ok(false);
-    }
     let Some(neutral) = P::of(maxval) else {
         return Ok(false);
     };
     P::least_into(alloc, lent, offsets, neutral, tile, out)
 }
 
-/// Writes the greatest under an element, in a tile.
+/// Writes the greatest under a full rectangle, in a tile.
 fn put_greatest<P: Lendable>(
     alloc: Global,
     lent: &Lent<P>,
-    element: &Element,
+    offsets: OffsetBox,
     tile: Rect,
     out: &mut [P],
 ) -> Result<bool, NoMemory>
     requires room { length out.old ≡ tile.height * tile.width }
-    ensures made { IfOk result (λ done. done ≡ true → (f : Picture) → IsWholeView P.level lent.now f → IsStrip tile f → map P.level out.new ≡ cells_in tile (sample (plane_of (Dilate element.now.offsets) (f ∷ []) f.width f.height))) }
+    ensures made { IfOk result (λ done. done ≡ true → (f : Picture) → IsWholeView P.level lent.now f → IsStrip tile f → map P.level out.new ≡ cells_in tile (sample (plane_of (DilateBox offsets) (f ∷ []) f.width f.height))) }
     ensures left_out { IfOk result (λ done. done ≡ false → out.new ≡ out.old) }
     ensures kept { IfErr result (λ _. out.new ≡ out.old) }
 {
-    let Some(offsets) = element.as_rectangle() else {
-        return put_greatest_under(alloc, lent, element, tile, out);
-    };
-    if !is_quick(offsets) {
-        return Ok(false);
-    }
     P::greatest_into(alloc, lent, offsets, tile, out)
 }
 
@@ -180,8 +157,10 @@ fn put_tile<P: Lendable>(
 {
     match rule {
         Rule::Nth(element, k) => medians_into(alloc, lent, element.offsets(), k, tile, out),
-        Rule::Least(element) => put_least(alloc, lent, element, maxval, tile, out),
-        Rule::Greatest(element) => put_greatest(alloc, lent, element, tile, out),
+        Rule::Least(element) => put_least_under(alloc, lent, element, maxval, tile, out),
+        Rule::Greatest(element) => put_greatest_under(alloc, lent, element, tile, out),
+        Rule::LeastBox(offsets) => put_least(alloc, lent, offsets, maxval, tile, out),
+        Rule::GreatestBox(offsets) => put_greatest(alloc, lent, offsets, tile, out),
         Rule::AtLeast(_) => Ok(false),
     }
 }

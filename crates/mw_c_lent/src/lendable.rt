@@ -1,14 +1,18 @@
 //! Samples of a caller's array that kernels read and write where they stand.
 
-ghost use Rattle.std.specs.Prelude.{◌≡◌, ◌+◌, ◌*◌, ◌≤◌, length, map, IfErr, IfOk, IfSome, false, true};
+ghost use Rattle.std.specs.Prelude.{◌≡◌, ℕ, ◌+◌, ◌-◌, ◌*◌, ◌≤◌, length, map, IfErr, IfNone, IfOk, IfSome, false, true};
+ghost use lib.Lanes.{zip2};
 ghost use Rattle.mw_model.specs.Flat.{greatest, least};
 ghost use Rattle.mw_model.specs.Rectangles.{box_offsets};
 ghost use Rattle.mw_model.specs.Windows.{seen_at};
 ghost use Rattle.mw_c_arrays.specs.Sources.{picture_in};
 ghost use Rattle.mw_line_lent.specs.Near.{IsAround, StandsInside};
 ghost use Rattle.mw_c_lent.specs.Boxes.{IsMadeUnder};
+ghost use Rattle.mw_c_lent.specs.Levels.{HasLevelsUpTo};
 
+use crate::subtracting::subtract_from;
 use mw_c_arrays::ArrayImage;
+use mw_line::lane::subtract_rows;
 use mw_line_lent::{Lent, Max, Min, boxes_into, boxes_with_room};
 use mw_model::{NoMemory, Offset, OffsetBox, Rect};
 use mw_offset_lent::offsets_into;
@@ -19,7 +23,8 @@ use std::alloc::Global;
 pub trait Lendable: Vectored {
     /// The samples of an array in levels of grey, where they are of this type.
     fn grey<'a>(f: ArrayImage<'a>) -> Option<&'a [Self]>
-        ensures { IfSome result (λ samples. map Self.level samples.now ≡ (picture_in f.entry).samples) };
+        ensures samples { IfSome result (λ samples. map Self.level samples.now ≡ (picture_in f.entry).samples) }
+        ensures none { IfNone result (HasLevelsUpTo Self.top_level f.entry → ⊥) };
 
     /// Writes the least of the neutral sample and those that are lent under a box, at each place of a tile, if it can. Says whether it
     /// did: where not, it writes nothing. It may want memory (`NoMemory`), but only before it writes.
@@ -110,6 +115,16 @@ pub trait Lendable: Vectored {
         ensures made { IfOk result (λ done. done ≡ true → IsMadeUnder greatest Self.level (seen_at lent.now) offsets.now tile out.new) }
         ensures left_out { IfOk result (λ done. done ≡ false → out.new ≡ out.old) }
         ensures kept { IfErr result (λ _. out.new ≡ out.old) };
+
+    /// Each sample less the other's at its place, stopping at 0, in place.
+    fn subtract_row(row: &mut [Self], other: &[Self])
+        requires { length row.old ≡ length other.now }
+        ensures { map Self.level row.new ≡ zip2 (λ (m n : ℕ). m - n) (map Self.level row.old) (map Self.level other.now) };
+
+    /// The other's sample less each at its place.
+    fn subtract_from_row(row: &mut [Self], other: &[Self])
+        requires { length row.old ≡ length other.now }
+        ensures { map Self.level row.new ≡ zip2 (λ (m n : ℕ). m - n) (map Self.level other.now) (map Self.level row.old) };
 }
 
 impl Lendable for u8 {
@@ -183,6 +198,14 @@ impl Lendable for u8 {
     ) -> Result<bool, NoMemory> {
         offsets_into::<u8, Max>(alloc, lent, offsets, 0, tile, out)
     }
+
+    fn subtract_row(row: &mut [u8], other: &[u8]) {
+        subtract_rows(row, other);
+    }
+
+    fn subtract_from_row(row: &mut [u8], other: &[u8]) {
+        subtract_from(row, other);
+    }
 }
 
 impl Lendable for u16 {
@@ -255,5 +278,13 @@ impl Lendable for u16 {
         out: &mut [u16],
     ) -> Result<bool, NoMemory> {
         offsets_into::<u16, Max>(alloc, lent, offsets, 0, tile, out)
+    }
+
+    fn subtract_row(row: &mut [u16], other: &[u16]) {
+        subtract_rows(row, other);
+    }
+
+    fn subtract_from_row(row: &mut [u16], other: &[u16]) {
+        subtract_from(row, other);
     }
 }

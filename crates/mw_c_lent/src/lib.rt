@@ -1,25 +1,31 @@
 //! What kernels make of rows where they stand in a caller's array, written into the caller's rows: medians under squares, the least
-//! and the greatest under full rectangles and under few offsets, and openings and closings by full rectangles. No window is copied,
-//! no plane filled, and nothing copied out.
+//! and the greatest under full rectangles and under few offsets, and by full rectangles openings, closings, gradients and top-hats. No
+//! window is copied, no plane filled, and nothing copied out.
 //!
 //! ```text
-//! if let Some(middle) = middle_of(Rule::Least(&b), f, 0, 480) {
+//! if let Some(middle) = middle_of(Rule::LeastBox(b), f, 0, 480) {
 //!     if put_middle(alloc, middle, &mut out)? { .. }      // these rows of the erosion stand
 //! }
-//! if put_two_steps(alloc, Rule::Least(&b), Rule::Greatest(&turned), f, &mut out)? { .. }      // the opening stands
+//! if put_two_steps(alloc, Rule::LeastBox(b), Rule::GreatestBox(turned), f, &mut out)? { .. }      // the opening stands
+//! if put_difference(alloc, Rule::GreatestBox(b), Rule::LeastBox(b), f, &mut out)? { .. }      // the gradient stands
 //! ```
 #![tactic(auto)]
 
+mod differences;
+mod filters;
 mod in_place;
 mod lendable;
+mod recipes;
 mod rules;
 mod slides;
+mod standing;
+mod subtracting;
 mod two_steps;
 
+pub use filters::{put_difference, put_two_steps, put_what_is_added, put_what_is_taken};
 pub use in_place::{Middle, middle_of, put_middle};
 pub use lendable::Lendable;
 pub use mw_c_arrays::ArrayImage;
 pub use mw_element::Element;
 pub use mw_model::NoMemory;
 pub use rules::Rule;
-pub use two_steps::put_two_steps;

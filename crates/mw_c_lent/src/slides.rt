@@ -1,18 +1,18 @@
 //! Extrema under full rectangles that are made with room that was asked for before: nothing is refused once the first row stands.
 
-ghost use Rattle.std.specs.Prelude.{◌≡◌, ◌+◌, ◌*◌, ◌≤◌, length, IfSome, IsTrue};
+ghost use Rattle.std.specs.Prelude.{◌≡◌, ℕ, ◌+◌, ◌*◌, ◌≤◌, length, IfNone, IfSome, IsTrue};
 ghost use Rattle.mw_model.specs.Pictures.{Picture};
 ghost use Rattle.mw_model.specs.Rectangles.{WithinReach, box_offsets};
 ghost use Rattle.mw_model.specs.Windows.{seen_at};
-ghost use Rattle.mw_element.specs.Figures.{FillsBox};
 ghost use Rattle.mw_line_lent.specs.Near.{IsAround, StandsInside};
 ghost use Rattle.mw_c_lent.specs.Boxes.{IsMadeUnder};
+ghost use Rattle.mw_c_lent.specs.Narrow.{IsNarrow, IsNarrowRule};
 ghost use Rattle.mw_c_lent.specs.Rules.{rule_picture};
 ghost use Rattle.mw_c_lent.specs.Slides.{AreSteps, slide_box, slide_value, slide_picture, steps_picture};
 
 use crate::lendable::Lendable;
 use crate::rules::Rule;
-use mw_element::Element;
+use mw_line_lent::rows_of_sheet;
 use mw_model::{OffsetBox, Reach, Rect};
 use mw_rank_lent::Lent;
 
@@ -31,55 +31,59 @@ pub(crate) struct Steps {
     pub reach: Reach,
 }
 
-/// The widest rectangles that are made sooner where rows stand: others are made by strips, which double what they merge.
-const WIDEST: i64 = 36;
-
-/// The highest rectangles.
-const HIGHEST: i64 = 256;
+/// The longest side of rectangles that are made here.
+const LONGEST: i64 = 256;
 
 /// Whether a rectangle has the place that it is put on, and is made here.
 fn is_around(offsets: OffsetBox) -> bool
-    ensures { IsTrue result → IsAround offsets }
+    ensures around { IsTrue result → IsAround offsets }
+    ensures narrow { IsNarrow 255 offsets → IsTrue result }
 {
     let (left, right) = (i64::from(offsets.x0), i64::from(offsets.x1));
     let (top, bottom) = (i64::from(offsets.y0), i64::from(offsets.y1));
-    if left > 0 || right < 0 || right - left >= WIDEST {
+    if left > 0 {
         return false;
     }
-    if top > 0 || bottom < 0 || bottom - top >= HIGHEST {
+    if right < 0 {
+        return false;
+    }
+    if top > 0 {
+        return false;
+    }
+    if bottom < 0 {
+        return false;
+    }
+    if right - left >= LONGEST {
+        return false;
+    }
+    if bottom - top >= LONGEST {
         return false;
     }
     true
-}
-
-/// The rectangle that an element is, if it is one that is made here.
-fn rectangle_of(element: &Element) -> Option<OffsetBox>
-    ensures around { IfSome result IsAround }
-    ensures fills { IfSome result (λ box. FillsBox box element.now.offsets) }
-{
-    let Some(offsets) = element.as_rectangle() else {
-        return None;
-    };
-    if !is_around(offsets) {
-        return None;
-    }
-    Some(offsets)
 }
 
 /// The extremum that a rule takes, if it is one that is made here.
 pub(crate) fn slide_of(rule: Rule<'_>) -> Option<Slide>
     ensures around { IfSome result (λ s. IsAround (slide_box s)) }
     ensures picture { IfSome result (λ s. (f : Picture) → slide_picture s f ≡ rule_picture rule.entry f) }
+    ensures low { IfSome result (λ s. (beyond : ℕ) → IsNarrowRule beyond rule.entry → IsNarrow beyond (slide_box s)) }
+    ensures none { IfNone result (IsNarrowRule 255 rule.entry → ⊥) }
 {
     match rule {
-        Rule::Least(element) => match rectangle_of(element) {
-            Some(offsets) => Some(Slide::Least(offsets)),
-            None => None,
-        },
-        Rule::Greatest(element) => match rectangle_of(element) {
-            Some(offsets) => Some(Slide::Greatest(offsets)),
-            None => None,
-        },
+        Rule::LeastBox(offsets) => {
+            if is_around(offsets) {
+                return Some(Slide::Least(offsets));
+            }
+            None
+        }
+        Rule::GreatestBox(offsets) => {
+            if is_around(offsets) {
+                return Some(Slide::Greatest(offsets));
+            }
+            None
+        }
+        Rule::Least(_) => None,
+        Rule::Greatest(_) => None,
         Rule::Nth(_, _) => None,
         Rule::AtLeast(_) => None,
     }
@@ -90,6 +94,7 @@ fn reach_of(offsets: OffsetBox) -> Reach
     requires { IsAround offsets }
     ensures reach { WithinReach result (box_offsets offsets) }
     ensures near { result.up + result.down ≤ 255 }
+    ensures low { (beyond : ℕ) → IsNarrow beyond offsets → result.up + result.down ≤ beyond }
 {
     Reach {
         left: offsets.x0.unsigned_abs(),
@@ -109,10 +114,19 @@ fn rectangle(slide: Slide) -> OffsetBox
     }
 }
 
+/// How many rows of room the rectangle of an extremum makes use of beside six lines.
+pub(crate) fn rows_of_room(slide: Slide) -> u32
+    ensures { result ≤ 260 }
+{
+    rows_of_sheet(rectangle(slide))
+}
+
 /// What two rules make one after the other, if both are made here.
 pub(crate) fn steps_of(first: Rule<'_>, second: Rule<'_>) -> Option<Steps>
     ensures sound { IfSome result AreSteps }
     ensures picture { IfSome result (λ s. (f : Picture) → steps_picture s f ≡ rule_picture second.entry (rule_picture first.entry f)) }
+    ensures low { IfSome result (λ s. (beyond : ℕ) → IsNarrowRule beyond second.entry → s.reach.up + s.reach.down ≤ beyond) }
+    ensures none { IfNone result (IsNarrowRule 255 first.entry → IsNarrowRule 255 second.entry → ⊥) }
 {
     let Some(first) = slide_of(first) else {
         return None;

@@ -127,18 +127,24 @@ part_minus a b p q r alike strip first second =
 rule_unsummed : (rule : Rule) → is_sum (step_of rule) ≡ false
 rule_unsummed (rules.Least e) = refl
 rule_unsummed (rules.Greatest e) = refl
+rule_unsummed (rules.LeastBox b) = refl
+rule_unsummed (rules.GreatestBox b) = refl
 rule_unsummed (rules.Nth e k) = refl
 rule_unsummed (rules.AtLeast k) = refl
 
 rule_sources : (rule : Rule) → 1 ≡ source_count (step_of rule)
 rule_sources (rules.Least e) = refl
 rule_sources (rules.Greatest e) = refl
+rule_sources (rules.LeastBox b) = refl
+rule_sources (rules.GreatestBox b) = refl
 rule_sources (rules.Nth e k) = refl
 rule_sources (rules.AtLeast k) = refl
 
 rule_kinds : (rule : Rule) (ws : List SourceWindow) → KindsFit (step_of rule) ws
 rule_kinds (rules.Least e) ws = tt
 rule_kinds (rules.Greatest e) ws = tt
+rule_kinds (rules.LeastBox b) ws = tt
+rule_kinds (rules.GreatestBox b) ws = tt
 rule_kinds (rules.Nth e k) ws = tt
 rule_kinds (rules.AtLeast k) ws = tt
 

@@ -8,17 +8,16 @@ use Rattle.mw_model.specs.Pictures.{IsPicture, Picture}
 use Rattle.mw_model.specs.Rectangles.{rect}
 use Rattle.mw_model.proofs.ImageLaws.{minus_picture}
 use Rattle.mw_tile.specs.Windows.{SourceWindow, window_of}
-use Rattle.mw_model.specs.declared.shapes.Kind.TheVariants as kind
+use Rattle.mw_c_arrays.specs.Sources.{picture_in}
 use Rattle.mw_c_arrays.proofs.SourceImages.{source_image}
 use Rattle.mw_c_lent.proofs.Steps.{rule_is_picture}
 use Rattle.mw_c_strips.specs.Origins.{IsOrigin, origin_picture}
-use Rattle.mw_c_strips.proofs.OriginImages.{origin_image}
+use Rattle.mw_c_strips.proofs.OriginImages.{between_image, origin_image}
 use Rattle.mw_c_strips.specs.declared.layers.Formula.{Formula}
 use Rattle.mw_c_strips.specs.declared.layers.Formula.TheVariants.{One, Less}
 use Rattle.mw_c_strips.specs.declared.layers.Layer.{Layer}
-use Rattle.mw_c_strips.specs.declared.layers.Layer.TheVariants.{By, Itself}
+use Rattle.mw_c_strips.specs.declared.layers.Layer.TheVariants.{By, Itself, Twice}
 use Rattle.mw_c_lent.specs.declared.rules.Rule.{Rule}
-use Rattle.mw_c_lent.specs.declared.rules.Rule.TheVariants as rules
 use Rattle.mw_c_strips.specs.Layers.{IsFormula, first_origin, formula_picture, layer_picture, origin_of, rule_picture}
 use Rattle.mw_c_strips.specs.Parts.{IsStrip, part_of, whole_window}
 
@@ -30,6 +29,7 @@ pub record HasSides (f : Picture) : Type 0 where
 pub layer_sides : (l : Layer) → IsOrigin (origin_of l) → HasSides (layer_picture l)
 layer_sides (Itself f) is = let image = source_image f is in record { wide = image.width; high = image.height }
 layer_sides (By r f) is = let image = origin_image f is in record { wide = image.width; high = image.height }
+layer_sides (Twice r s f) is = let image = source_image f is in record { wide = image.width; high = image.height }
 
 -- a strip of what a rule makes is one of what it looks at
 pub strip_below : (r : Rule) (f : Picture) (strip : Rect) → IsStrip strip (rule_picture r f) → IsStrip strip f
@@ -74,6 +74,7 @@ two_windows a b r w v ws alike whole first second is =
 pub layer_is_picture : (l : Layer) → IsOrigin (origin_of l) → IsPicture (layer_picture l)
 layer_is_picture (Itself f) is = (source_image f is).picture
 layer_is_picture (By r f) is = rule_is_picture r (origin_picture f) (origin_image f is).picture
+layer_is_picture (Twice r s f) is = rule_is_picture r (rule_picture s (picture_in f)) (between_image s f is).picture
 
 pub formula_is_picture : (x : Formula) → IsFormula x → IsPicture (formula_picture x)
 formula_is_picture (One l) is = layer_is_picture l is
@@ -86,6 +87,7 @@ formula_sides (Less a b) is = let sides = layer_sides a is.0 in record { wide = 
 layer_frame : (l : Layer) → ((layer_picture l).width ≡ (origin_picture (origin_of l)).width) × ((layer_picture l).height ≡ (origin_picture (origin_of l)).height)
 layer_frame (Itself f) = (refl, refl)
 layer_frame (By r f) = (refl, refl)
+layer_frame (Twice r s f) = (refl, refl)
 
 -- their frame is that of the image that is looked at first
 pub formula_frame : (x : Formula) → ((formula_picture x).width ≡ (origin_picture (first_origin x)).width) × ((formula_picture x).height ≡ (origin_picture (first_origin x)).height)

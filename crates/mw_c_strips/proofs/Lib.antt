@@ -1,5 +1,7 @@
 -- the crate's own
 mod Filtered
+mod FormPlans
+mod InBoxes
 mod Formulas
 mod Cutting
 mod UnderOffsets

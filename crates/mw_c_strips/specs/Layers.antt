@@ -7,10 +7,8 @@ pub use Rattle.mw_c_lent.specs.Rules.{rule_picture, step_of}
 use Rattle.mw_c_strips.specs.declared.origins.Origin.{Origin}
 use Rattle.mw_c_strips.specs.declared.origins.Origin.TheVariants.{Array}
 use Rattle.mw_c_strips.specs.Origins.{IsOrigin, origin_picture}
-use Rattle.mw_plan.specs.declared.extremum.ExtremumKind.{ExtremumKind}
-use Rattle.mw_plan.specs.declared.extremum.ExtremumKind.TheVariants as extremum
 use Rattle.mw_c_strips.specs.declared.layers.Layer.{Layer}
-use Rattle.mw_c_strips.specs.declared.layers.Layer.TheVariants.{Itself, By}
+use Rattle.mw_c_strips.specs.declared.layers.Layer.TheVariants.{Itself, By, Twice}
 use Rattle.mw_c_strips.specs.declared.layers.Formula.{Formula}
 use Rattle.mw_c_strips.specs.declared.layers.Formula.TheVariants.{One, Less}
 
@@ -18,6 +16,7 @@ use Rattle.mw_c_strips.specs.declared.layers.Formula.TheVariants.{One, Less}
 abbrev pub origin_of : Layer → Origin
 origin_of (Itself f) = Array f
 origin_of (By r f) = f
+origin_of (Twice r s f) = Array f
 
 -- the image that a formula looks at first
 abbrev pub first_origin : Formula → Origin
@@ -28,6 +27,7 @@ first_origin (Less a b) = origin_of a
 abbrev pub layer_picture : Layer → Picture
 layer_picture (Itself f) = picture_in f
 layer_picture (By r f) = rule_picture r (origin_picture f)
+layer_picture (Twice r s f) = rule_picture r (rule_picture s (picture_in f))
 
 -- the image that a formula makes
 abbrev pub formula_picture : Formula → Picture
@@ -38,8 +38,3 @@ formula_picture (Less a b) = minus (layer_picture a) (layer_picture b)
 abbrev pub IsFormula : Formula → Type 0
 IsFormula (One l) = IsOrigin (origin_of l)
 IsFormula (Less a b) = IsOrigin (origin_of a) × IsOrigin (origin_of b) × SameShape (layer_picture b) (layer_picture a)
-
--- the image less what is filtered of it where that is an opening, and turned where it is a closing
-abbrev pub filter_residue : ExtremumKind → Picture → Picture → Picture
-filter_residue extremum.Least f g = minus f g
-filter_residue extremum.Greatest f g = minus g f

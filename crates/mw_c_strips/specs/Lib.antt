@@ -1,3 +1,5 @@
+pub mod Boxes
+pub mod Forms
 pub mod Layers
 pub mod Origins
 pub mod Parts

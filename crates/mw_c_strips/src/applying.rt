@@ -1,55 +1,28 @@
-//! Flat operators from array to array. Each writes nothing where memory is refused.
+//! Plans from array to array. They write nothing where memory is refused.
 
-ghost use Rattle.std.specs.Prelude.{◌≡◌, length, map, IfErr, IfOk};
-ghost use Rattle.std.specs.Arc.{arc_value};
+ghost use Rattle.std.specs.Prelude.{◌≡◌, ◌*◌, length, map, IfErr, IfOk, false, true};
 ghost use Rattle.mw_model.specs.declared.shapes.Kind.TheVariants as kind;
-ghost use Rattle.mw_model.specs.Flat.{gradient, minus, rank, reflected, threshold};
+ghost use Rattle.mw_model.specs.Flat.{minus};
 ghost use Rattle.mw_model.specs.Laws.{SameShape};
-ghost use Rattle.mw_model.specs.Pictures.{Picture};
-ghost use Rattle.mw_plan.specs.Steps.{filtering, other, residue, sliding};
+ghost use Rattle.mw_plan.specs.Steps.{last_plane};
 ghost use Rattle.mw_c_arrays.specs.Sources.{IsArrayImage, array_sample_count, picture_in};
-ghost use Rattle.mw_c_strips.specs.Layers.{filter_residue, rule_picture};
-ghost use Rattle.mw_c_strips.specs.Origins.{IsOrigin, origin_picture};
+ghost use Rattle.mw_c_lent.specs.Recipes.{AreTwoSteps};
+ghost use Rattle.mw_c_strips.specs.Forms.{IsForm, IsSlide, form_picture, is_strip_plan, rest_picture};
+ghost use Rattle.mw_c_strips.specs.Layers.{layer_picture, origin_of, rule_picture};
+ghost use Rattle.mw_c_strips.specs.Origins.{IsOrigin};
 
 use crate::Sample;
+use crate::cuts::are_by_strips;
+use crate::forms::{Form, Rest, form_of};
 use crate::gathering::{levels_made, set_made};
 use crate::layers::{Formula, Layer};
 use crate::origins::{Origin, is_set};
 use crate::writing::write_all;
 use mw_c_arrays::ArrayImage;
-use mw_c_lent::{Rule, put_two_steps};
-use mw_element::Element;
+use mw_c_lent::{Rule, put_difference, put_two_steps, put_what_is_added, put_what_is_taken};
 use mw_model::NoMemory;
-use mw_plan::ExtremumKind;
+use mw_plan::Plan;
 use std::alloc::Global;
-use std::sync::Arc;
-
-/// The rule of an extremum under an element.
-pub(crate) fn slid(extremum: ExtremumKind, element: &Arc<Element>) -> Rule<'_>
-    ensures { (f : Picture) → rule_picture result f ≡ sliding extremum (arc_value element.entry.now).offsets f }
-{
-    match extremum {
-        ExtremumKind::Least => Rule::Least(element),
-        ExtremumKind::Greatest => Rule::Greatest(element),
-    }
-}
-
-/// The rule of the other extremum.
-fn slid_back(extremum: ExtremumKind, element: &Arc<Element>) -> Rule<'_>
-    ensures { (f : Picture) → rule_picture result f ≡ sliding (other extremum) (arc_value element.entry.now).offsets f }
-{
-    match extremum {
-        ExtremumKind::Least => Rule::Greatest(element),
-        ExtremumKind::Greatest => Rule::Least(element),
-    }
-}
-
-/// The element turned round.
-fn turned(alloc: Global, b: &Arc<Element>) -> Result<Arc<Element>, NoMemory>
-    ensures { IfOk result (λ e. (arc_value e).offsets ≡ reflected (arc_value b.now).offsets) }
-{
-    Ok(Arc::new(alloc, b.reflect(alloc)?)?)
-}
 
 /// Writes what one rule makes.
 fn one<P: Sample>(
@@ -77,11 +50,15 @@ fn difference<P: Sample>(
 ) -> Result<(), NoMemory>
     requires sound { IsArrayImage f }
     requires room { length out.old ≡ array_sample_count f }
-    requires alike { SameShape (rule_picture lower (picture_in f)) (rule_picture upper (picture_in f)) }
-    requires stands { P.stands (rule_picture upper (picture_in f)).maxval }
+    requires upper { IsSlide upper }
+    requires lower { IsSlide lower }
+    requires stands { P.stands (picture_in f).maxval }
     ensures made { IfOk result (λ _. map P.level out.new ≡ (minus (rule_picture upper.entry (picture_in f.entry)) (rule_picture lower.entry (picture_in f.entry))).samples) }
     ensures kept { IfErr result (λ _. out.new ≡ out.old) }
 {
+    if put_difference(alloc, upper, lower, f, out)? {
+        return Ok(());
+    }
     write_all(
         alloc,
         Formula::Less(
@@ -92,223 +69,244 @@ fn difference<P: Sample>(
     )
 }
 
-/// Writes an opening or a closing of a set, with words between the two steps.
-fn filter_set<P: Sample>(
+/// Writes what two rules in turn make of a set, with words between them.
+fn in_turn_of_set<P: Sample>(
     alloc: Global,
-    extremum: ExtremumKind,
+    first: Rule<'_>,
+    second: Rule<'_>,
     f: ArrayImage<'_>,
-    b: &Arc<Element>,
     out: &mut [P],
 ) -> Result<(), NoMemory>
     requires sound { IsArrayImage f }
     requires set { (picture_in f).kind ≡ kind.Bit }
     requires room { length out.old ≡ array_sample_count f }
+    requires first { IsSlide first }
+    requires second { IsSlide second }
     requires stands { P.stands (picture_in f).maxval }
-    ensures made { IfOk result (λ _. map P.level out.new ≡ (filtering extremum (arc_value b.now).offsets (picture_in f.entry)).samples) }
+    ensures made { IfOk result (λ _. map P.level out.new ≡ (rule_picture second.entry (rule_picture first.entry (picture_in f.entry))).samples) }
     ensures kept { IfErr result (λ _. out.new ≡ out.old) }
 {
-    let back = turned(alloc, b)?;
-    let image = set_made(alloc, slid(extremum, b), f)?;
-    let second = Layer::By(slid_back(extremum, &back), Origin::Made(&image));
-    write_all(alloc, Formula::One(second), out)
+    let image = set_made(alloc, first, f)?;
+    let layer = Layer::By(second, Origin::Made(&image));
+    write_all(alloc, Formula::One(layer), out)
 }
 
-/// Writes an opening or a closing of levels: by one strip between the two steps where there are kernels for that, else with a plane
-/// between them.
-fn filter_levels<P: Sample>(
+/// Writes what two rules in turn make of levels: in place where there are kernels for that, else with one strip between them, or with a
+/// plane where that takes less memory.
+fn in_turn_of_levels<P: Sample>(
     alloc: Global,
-    extremum: ExtremumKind,
+    first: Rule<'_>,
+    second: Rule<'_>,
     f: ArrayImage<'_>,
-    b: &Arc<Element>,
     out: &mut [P],
 ) -> Result<(), NoMemory>
     requires sound { IsArrayImage f }
     requires grey { (picture_in f).kind ≡ kind.Grey }
     requires room { length out.old ≡ array_sample_count f }
+    requires first { IsSlide first }
+    requires second { IsSlide second }
     requires stands { P.stands (picture_in f).maxval }
-    ensures made { IfOk result (λ _. map P.level out.new ≡ (filtering extremum (arc_value b.now).offsets (picture_in f.entry)).samples) }
+    ensures made { IfOk result (λ _. map P.level out.new ≡ (rule_picture second.entry (rule_picture first.entry (picture_in f.entry))).samples) }
     ensures kept { IfErr result (λ _. out.new ≡ out.old) }
 {
-    let back = turned(alloc, b)?;
-    let first = slid(extremum, b);
-    let second = slid_back(extremum, &back);
     if put_two_steps(alloc, first, second, f, out)? {
         return Ok(());
+    }
+    if are_by_strips(second, first, f) {
+        let layer = Layer::Twice(second, first, f);
+        return write_all(alloc, Formula::One(layer), out);
     }
     let plane = levels_made::<P>(alloc, first, f)?;
     let between = P::like(f, plane.as_slice());
     one(alloc, second, between, out)
 }
 
-/// Writes an opening or a closing.
-pub fn filter_into<P: Sample>(
+/// Writes what two rules in turn make.
+fn in_turn<P: Sample>(
     alloc: Global,
-    extremum: ExtremumKind,
+    first: Rule<'_>,
+    second: Rule<'_>,
     f: ArrayImage<'_>,
-    b: &Arc<Element>,
     out: &mut [P],
 ) -> Result<(), NoMemory>
     requires sound { IsArrayImage f }
     requires room { length out.old ≡ array_sample_count f }
+    requires first { IsSlide first }
+    requires second { IsSlide second }
     requires stands { P.stands (picture_in f).maxval }
-    ensures made { IfOk result (λ _. map P.level out.new ≡ (filtering extremum (arc_value b.now).offsets (picture_in f.entry)).samples) }
+    ensures made { IfOk result (λ _. map P.level out.new ≡ (rule_picture second.entry (rule_picture first.entry (picture_in f.entry))).samples) }
     ensures kept { IfErr result (λ _. out.new ≡ out.old) }
 {
     if is_set(f) {
-        filter_set(alloc, extremum, f, b, out)
+        in_turn_of_set(alloc, first, second, f, out)
     } else {
-        filter_levels(alloc, extremum, f, b, out)
+        in_turn_of_levels(alloc, first, second, f, out)
     }
 }
 
-/// Writes the image less its opening, or its closing less the image, of what stands between the two steps.
+/// Writes what is left over of the image and a layer.
 fn left_over<P: Sample>(
     alloc: Global,
-    extremum: ExtremumKind,
+    rest: Rest,
     f: ArrayImage<'_>,
-    between: Origin<'_>,
-    back: &Arc<Element>,
+    layer: Layer<'_>,
     out: &mut [P],
 ) -> Result<(), NoMemory>
     requires sound { IsArrayImage f }
-    requires between { IsOrigin between }
-    requires alike { SameShape (origin_picture between) (picture_in f) }
+    requires layer { IsOrigin (origin_of layer) }
+    requires alike { SameShape (layer_picture layer) (picture_in f) }
     requires room { length out.old ≡ array_sample_count f }
     requires stands { P.stands (picture_in f).maxval }
-    ensures made { IfOk result (λ _. map P.level out.new ≡ (filter_residue extremum (picture_in f.entry) (sliding (other extremum) (arc_value back.now).offsets (origin_picture between.entry))).samples) }
+    ensures made { IfOk result (λ _. map P.level out.new ≡ (rest_picture rest (picture_in f.entry) (layer_picture layer.entry)).samples) }
     ensures kept { IfErr result (λ _. out.new ≡ out.old) }
 {
-    let filtered = Layer::By(slid_back(extremum, back), between);
     let itself = Layer::Itself(f);
-    match extremum {
-        ExtremumKind::Least => write_all(alloc, Formula::Less(itself, filtered), out),
-        ExtremumKind::Greatest => write_all(alloc, Formula::Less(filtered, itself), out),
+    match rest {
+        Rest::Taken => write_all(alloc, Formula::Less(itself, layer), out),
+        Rest::Added => write_all(alloc, Formula::Less(layer, itself), out),
     }
 }
 
-/// Writes what an opening of a set takes away, or a closing adds, with words between the two steps.
-fn residue_set<P: Sample>(
+/// Writes what is left over of a set and what two rules in turn make of it, with words between them.
+fn residue_of_set<P: Sample>(
     alloc: Global,
-    extremum: ExtremumKind,
+    rest: Rest,
+    first: Rule<'_>,
+    second: Rule<'_>,
     f: ArrayImage<'_>,
-    b: &Arc<Element>,
     out: &mut [P],
 ) -> Result<(), NoMemory>
     requires sound { IsArrayImage f }
     requires set { (picture_in f).kind ≡ kind.Bit }
     requires room { length out.old ≡ array_sample_count f }
+    requires first { IsSlide first }
+    requires second { IsSlide second }
     requires stands { P.stands (picture_in f).maxval }
-    ensures made { IfOk result (λ _. map P.level out.new ≡ (residue extremum (arc_value b.now).offsets (picture_in f.entry)).samples) }
+    ensures made { IfOk result (λ _. map P.level out.new ≡ (rest_picture rest (picture_in f.entry) (rule_picture second.entry (rule_picture first.entry (picture_in f.entry)))).samples) }
     ensures kept { IfErr result (λ _. out.new ≡ out.old) }
 {
-    let back = turned(alloc, b)?;
-    let image = set_made(alloc, slid(extremum, b), f)?;
-    left_over(alloc, extremum, f, Origin::Made(&image), &back, out)
+    let image = set_made(alloc, first, f)?;
+    let layer = Layer::By(second, Origin::Made(&image));
+    left_over(alloc, rest, f, layer, out)
 }
 
-/// Writes what an opening of levels takes away, or a closing adds.
-fn residue_levels<P: Sample>(
+/// Writes what is left over where there are kernels for that.
+fn put_left_over<P: Sample>(
     alloc: Global,
-    extremum: ExtremumKind,
+    rest: Rest,
+    first: Rule<'_>,
+    second: Rule<'_>,
     f: ArrayImage<'_>,
-    b: &Arc<Element>,
+    out: &mut [P],
+) -> Result<bool, NoMemory>
+    requires sound { IsArrayImage f }
+    requires room { length out.old ≡ (picture_in f).height * (picture_in f).width }
+    ensures made { IfOk result (λ done. done ≡ true → map P.level out.new ≡ (rest_picture rest (picture_in f.entry) (rule_picture second.entry (rule_picture first.entry (picture_in f.entry)))).samples) }
+    ensures near { IfOk result (λ done. AreTwoSteps P.top_level first.entry second.entry f.entry → done ≡ true) }
+    ensures left_out { IfOk result (λ done. done ≡ false → out.new ≡ out.old) }
+    ensures kept { IfErr result (λ _. out.new ≡ out.old) }
+{
+    match rest {
+        Rest::Taken => put_what_is_taken(alloc, first, second, f, out),
+        Rest::Added => put_what_is_added(alloc, first, second, f, out),
+    }
+}
+
+/// Writes what is left over of levels and what two rules in turn make of them: where rows stand, else by strips, else with a plane
+/// between the two.
+fn residue_of_levels<P: Sample>(
+    alloc: Global,
+    rest: Rest,
+    first: Rule<'_>,
+    second: Rule<'_>,
+    f: ArrayImage<'_>,
     out: &mut [P],
 ) -> Result<(), NoMemory>
     requires sound { IsArrayImage f }
     requires grey { (picture_in f).kind ≡ kind.Grey }
     requires room { length out.old ≡ array_sample_count f }
+    requires first { IsSlide first }
+    requires second { IsSlide second }
     requires stands { P.stands (picture_in f).maxval }
-    ensures made { IfOk result (λ _. map P.level out.new ≡ (residue extremum (arc_value b.now).offsets (picture_in f.entry)).samples) }
+    ensures made { IfOk result (λ _. map P.level out.new ≡ (rest_picture rest (picture_in f.entry) (rule_picture second.entry (rule_picture first.entry (picture_in f.entry)))).samples) }
     ensures kept { IfErr result (λ _. out.new ≡ out.old) }
 {
-    let back = turned(alloc, b)?;
-    let plane = levels_made::<P>(alloc, slid(extremum, b), f)?;
+    if put_left_over(alloc, rest, first, second, f, out)? {
+        return Ok(());
+    }
+    if are_by_strips(second, first, f) {
+        return left_over(alloc, rest, f, Layer::Twice(second, first, f), out);
+    }
+    let plane = levels_made::<P>(alloc, first, f)?;
     let between = P::like(f, plane.as_slice());
-    left_over(alloc, extremum, f, Origin::Array(between), &back, out)
+    let layer = Layer::By(second, Origin::Array(between));
+    left_over(alloc, rest, f, layer, out)
 }
 
-/// Writes what an opening takes away, or a closing adds.
-pub fn residue_into<P: Sample>(
+/// Writes what is left over of an image and what two rules in turn make of it.
+fn residue<P: Sample>(
     alloc: Global,
-    extremum: ExtremumKind,
+    rest: Rest,
+    first: Rule<'_>,
+    second: Rule<'_>,
     f: ArrayImage<'_>,
-    b: &Arc<Element>,
     out: &mut [P],
 ) -> Result<(), NoMemory>
     requires sound { IsArrayImage f }
     requires room { length out.old ≡ array_sample_count f }
+    requires first { IsSlide first }
+    requires second { IsSlide second }
     requires stands { P.stands (picture_in f).maxval }
-    ensures made { IfOk result (λ _. map P.level out.new ≡ (residue extremum (arc_value b.now).offsets (picture_in f.entry)).samples) }
+    ensures made { IfOk result (λ _. map P.level out.new ≡ (rest_picture rest (picture_in f.entry) (rule_picture second.entry (rule_picture first.entry (picture_in f.entry)))).samples) }
     ensures kept { IfErr result (λ _. out.new ≡ out.old) }
 {
     if is_set(f) {
-        residue_set(alloc, extremum, f, b, out)
+        residue_of_set(alloc, rest, first, second, f, out)
     } else {
-        residue_levels(alloc, extremum, f, b, out)
+        residue_of_levels(alloc, rest, first, second, f, out)
     }
 }
 
-/// Writes an erosion or a dilation.
-pub fn slide_into<P: Sample>(
+/// Writes what a form makes.
+fn write_form<P: Sample>(
     alloc: Global,
-    extremum: ExtremumKind,
+    form: Form<'_>,
     f: ArrayImage<'_>,
-    b: &Arc<Element>,
     out: &mut [P],
 ) -> Result<(), NoMemory>
     requires sound { IsArrayImage f }
+    requires form { IsForm form }
     requires room { length out.old ≡ array_sample_count f }
-    requires stands { P.stands (picture_in f).maxval }
-    ensures made { IfOk result (λ _. map P.level out.new ≡ (sliding extremum (arc_value b.now).offsets (picture_in f.entry)).samples) }
+    requires stands { P.stands (form_picture form (picture_in f)).maxval }
+    ensures made { IfOk result (λ _. map P.level out.new ≡ (form_picture form.entry (picture_in f.entry)).samples) }
     ensures kept { IfErr result (λ _. out.new ≡ out.old) }
 {
-    one(alloc, slid(extremum, b), f, out)
+    match form {
+        Form::One(rule) => one(alloc, rule, f, out),
+        Form::InTurn(first, second) => in_turn(alloc, first, second, f, out),
+        Form::Residue(rest, first, second) => residue(alloc, rest, first, second, f, out),
+        Form::Less(upper, lower) => difference(alloc, upper, lower, f, out),
+    }
 }
 
-/// Writes at each place, of the samples under the element in rising order, number `k`, or the last of fewer.
-pub fn rank_into<P: Sample>(
+/// Writes what a plan makes of an image, if it is one that is made by strips. Says whether it did: where not, it writes nothing.
+pub fn write_plan<P: Sample>(
     alloc: Global,
-    k: u32,
+    plan: &Plan,
     f: ArrayImage<'_>,
-    b: &Arc<Element>,
     out: &mut [P],
-) -> Result<(), NoMemory>
+) -> Result<bool, NoMemory>
     requires sound { IsArrayImage f }
     requires room { length out.old ≡ array_sample_count f }
-    requires stands { P.stands (picture_in f).maxval }
-    ensures made { IfOk result (λ _. map P.level out.new ≡ (rank (arc_value b.now).offsets k (picture_in f.entry)).samples) }
+    requires stands { P.stands (last_plane plan.now (picture_in f)).maxval }
+    ensures made { IfOk result (λ done. done ≡ true → map P.level out.new ≡ (last_plane plan.now (picture_in f.entry)).samples) }
+    ensures taken { IfOk result (λ done. done ≡ is_strip_plan plan.now) }
+    ensures left_out { IfOk result (λ done. done ≡ false → out.new ≡ out.old) }
     ensures kept { IfErr result (λ _. out.new ≡ out.old) }
 {
-    one(alloc, Rule::Nth(b, k), f, out)
-}
-
-/// Writes the set of the places with level `k` or more.
-pub fn threshold_into(
-    alloc: Global,
-    k: u32,
-    f: ArrayImage<'_>,
-    out: &mut [u8],
-) -> Result<(), NoMemory>
-    requires sound { IsArrayImage f }
-    requires room { length out.old ≡ array_sample_count f }
-    ensures made { IfOk result (λ _. out.new ≡ (threshold k (picture_in f.entry)).samples) }
-    ensures kept { IfErr result (λ _. out.new ≡ out.old) }
-{
-    one(alloc, Rule::AtLeast(k), f, out)
-}
-
-/// Writes the greatest sample under the element less the least.
-pub fn gradient_into<P: Sample>(
-    alloc: Global,
-    f: ArrayImage<'_>,
-    b: &Arc<Element>,
-    out: &mut [P],
-) -> Result<(), NoMemory>
-    requires sound { IsArrayImage f }
-    requires room { length out.old ≡ array_sample_count f }
-    requires stands { P.stands (picture_in f).maxval }
-    ensures made { IfOk result (λ _. map P.level out.new ≡ (gradient (arc_value b.now).offsets (picture_in f.entry)).samples) }
-    ensures kept { IfErr result (λ _. out.new ≡ out.old) }
-{
-    difference(alloc, Rule::Greatest(b), Rule::Least(b), f, out)
+    let Some(form) = form_of(plan) else {
+        return Ok(false);
+    };
+    write_form(alloc, form, f, out)?;
+    Ok(true)
 }

@@ -4,12 +4,13 @@ ghost use Rattle.std.specs.Prelude.{◌≡◌, ◌+◌, ◌<◌, ◌≤◌};
 ghost use Rattle.mw_model.specs.Pictures.{Picture};
 ghost use Rattle.mw_c_strips.specs.Parts.{IsStrip};
 
+use crate::boxes::{columns, rows};
 use crate::layers::{Formula, Layer, origin_of};
 use crate::origins::Origin;
 use mw_c_arrays::ArrayImage;
 use mw_c_lent::Rule;
 use mw_element::Element;
-use mw_model::Rect;
+use mw_model::{OffsetBox, Rect};
 use std::alloc::Global;
 use std::sync::Arc;
 
@@ -18,6 +19,9 @@ const STRIP: u32 = 262144;
 
 /// About so many bytes may all lists of a strip have.
 const MEMORY: u32 = 1966080;
+
+/// About so many bytes may all lists of a strip have that goes by two rules.
+const BOTH: u32 = 3080192;
 
 /// How many bytes a row has.
 fn row_size(f: Origin<'_>) -> u32
@@ -33,21 +37,41 @@ fn row_size(f: Origin<'_>) -> u32
     }
 }
 
-/// How many rows a strip has that goes by the element. Since each strip reads anew what the element reaches in those beside it, it
-/// has four times as many rows as that where memory allows: kernels have two lists of a box, and three of any other element.
-fn rows_by(element: &Arc<Element>, row_size: u32) -> u32
+/// How many rows above and below a place an element looks at.
+fn reach_of(element: &Arc<Element>) -> u32 {
+    let reach = element.reach();
+    reach.up.saturating_add(reach.down)
+}
+
+/// How many rows above and below a place a box looks at.
+fn reach_of_box(offsets: OffsetBox) -> u32 {
+    let up = offsets.y0.min(0).unsigned_abs();
+    let down = offsets.y1.max(0).unsigned_abs();
+    up.saturating_add(down)
+}
+
+/// How many rows a strip has that looks at so many more. Since each strip reads anew what is looked at in those beside it, it has four
+/// times as many rows as that where memory allows: kernels have so many lists of them.
+fn rows_by(more: u32, lists: u32, row_size: u32) -> u32
+    requires lists { 1 ≤ lists }
+    requires size { 1 ≤ row_size }
+    ensures { 16 ≤ result }
+{
+    let own = (MEMORY / row_size).saturating_sub(more.saturating_mul(2));
+    let room = own / lists;
+    let wanted = (STRIP / row_size).max(more.saturating_mul(4));
+    wanted.min(room).max(16)
+}
+
+/// How many rows a strip has of ranks under the element: kernels have two lists of a square, and three of any other element.
+fn rows_of_rank(element: &Arc<Element>, row_size: u32) -> u32
     requires { 1 ≤ row_size }
     ensures { 16 ≤ result }
 {
-    let reach = element.reach();
-    let more = reach.up.saturating_add(reach.down);
-    let own = (MEMORY / row_size).saturating_sub(more.saturating_mul(2));
-    let room = match element.as_rectangle() {
-        Some(_) => own / 2,
-        None => own / 3,
-    };
-    let wanted = (STRIP / row_size).max(more.saturating_mul(4));
-    wanted.min(room).max(16)
+    match element.as_rectangle() {
+        Some(_) => rows_by(reach_of(element), 2, row_size),
+        None => rows_by(reach_of(element), 3, row_size),
+    }
 }
 
 /// How many rows a strip has that goes by the rule.
@@ -56,11 +80,94 @@ fn rows_of_rule(rule: Rule<'_>, row_size: u32) -> u32
     ensures { 16 ≤ result }
 {
     match rule {
-        Rule::Least(element) => rows_by(element, row_size),
-        Rule::Greatest(element) => rows_by(element, row_size),
-        Rule::Nth(element, _) => rows_by(element, row_size),
+        Rule::Least(element) => rows_by(reach_of(element), 3, row_size),
+        Rule::Greatest(element) => rows_by(reach_of(element), 3, row_size),
+        Rule::LeastBox(offsets) => rows_by(reach_of_box(offsets), 2, row_size),
+        Rule::GreatestBox(offsets) => rows_by(reach_of_box(offsets), 2, row_size),
+        Rule::Nth(element, _) => rows_of_rank(element, row_size),
         Rule::AtLeast(_) => (STRIP / row_size).max(16),
     }
+}
+
+/// How many rows above and below a place a rule looks at.
+fn rows_beyond(rule: Rule<'_>) -> u32 {
+    match rule {
+        Rule::Least(element) => reach_of(element),
+        Rule::Greatest(element) => reach_of(element),
+        Rule::LeastBox(offsets) => reach_of_box(offsets),
+        Rule::GreatestBox(offsets) => reach_of_box(offsets),
+        Rule::Nth(element, _) => reach_of(element),
+        Rule::AtLeast(_) => 0,
+    }
+}
+
+/// How many rows the lists of a strip that goes by two rules have beside its own: those that both steps look at beyond them, and
+/// those that a kernel lays out.
+fn rows_beside(second: Rule<'_>, first: Rule<'_>, row_size: u32) -> u32
+    requires { 1 ≤ row_size }
+{
+    let (again, around) = (rows_beyond(second), rows_beyond(first));
+    let laid = (STRIP / row_size).max(32).max(around);
+    again
+        .saturating_add(around)
+        .saturating_add(laid)
+        .saturating_mul(2)
+}
+
+/// How many rows a strip has that goes by two rules, with two lists of them at first, and then up to three without what is beside.
+/// The first step makes again what the second looks at beyond them, so they are sixteen times as many as that where memory allows,
+/// and three times in any case.
+fn rows_of_steps(second: Rule<'_>, first: Rule<'_>, row_size: u32) -> u32
+    requires { 1 ≤ row_size }
+    ensures { 16 ≤ result }
+{
+    let again = rows_beyond(second);
+    let most = BOTH / row_size;
+    let room = most.saturating_sub(rows_beside(second, first, row_size)) / 2;
+    let wanted = (STRIP / row_size).max(again.saturating_mul(16));
+    let rows = wanted.min(room).min(most / 3);
+    rows.max(again.saturating_mul(3)).max(16)
+}
+
+/// Planes of so many bytes stay near the processor, and are made sooner than strips that overlap.
+const SMALL_PLANE: u32 = 2097152;
+
+/// So few offsets are merged sooner where rows stand, as those of a plane do. Strips that overlap by more rows than this lose by it.
+const FEW: usize = 64;
+
+const NEAR: u32 = 16;
+
+/// Whether a box has few offsets.
+fn is_few(offsets: OffsetBox) -> bool {
+    let wide = columns(offsets);
+    let high = rows(offsets);
+    wide <= FEW && high <= FEW && wide * high <= FEW
+}
+
+/// Whether a rule is an extremum under few offsets.
+fn is_of_few(rule: Rule<'_>) -> bool {
+    match rule {
+        Rule::Least(element) => element.offsets().len() <= FEW,
+        Rule::Greatest(element) => element.offsets().len() <= FEW,
+        Rule::LeastBox(offsets) => is_few(offsets),
+        Rule::GreatestBox(offsets) => is_few(offsets),
+        Rule::Nth(_, _) => false,
+        Rule::AtLeast(_) => false,
+    }
+}
+
+/// Whether two steps are made by strips: where a plane between them is large, and takes more memory.
+pub(crate) fn are_by_strips(second: Rule<'_>, first: Rule<'_>, f: ArrayImage<'_>) -> bool {
+    if is_of_few(second) && rows_beyond(second) > NEAR {
+        return false;
+    }
+    let row_size = row_size(Origin::Array(f));
+    let rows = rows_of_steps(second, first, row_size);
+    let made = rows
+        .saturating_mul(2)
+        .saturating_add(rows_beside(second, first, row_size));
+    let all = made.max(rows.saturating_mul(3));
+    f.height() > SMALL_PLANE / row_size && all <= (BOTH / row_size).max(f.height())
 }
 
 /// How many rows a strip of a layer has.
@@ -71,6 +178,18 @@ pub(crate) fn rows_of_layer(layer: Layer<'_>) -> u32
     match layer {
         Layer::Itself(_) => (STRIP / row_size).max(16),
         Layer::By(rule, _) => rows_of_rule(rule, row_size),
+        Layer::Twice(second, first, _) => rows_of_steps(second, first, row_size),
+    }
+}
+
+/// How many rows a strip of two layers has: those of one that goes by two rules, if there is one.
+fn rows_of_both(first: Layer<'_>, second: Layer<'_>) -> u32
+    ensures { 16 ≤ result }
+{
+    match (first, second) {
+        (Layer::Twice(_, _, _), _) => rows_of_layer(first),
+        (_, Layer::Twice(_, _, _)) => rows_of_layer(second),
+        (_, _) => rows_of_layer(first).min(rows_of_layer(second)),
     }
 }
 
@@ -80,7 +199,7 @@ pub(crate) fn rows_of(formula: Formula<'_>) -> u32
 {
     match formula {
         Formula::One(layer) => rows_of_layer(layer),
-        Formula::Less(first, second) => rows_of_layer(first).min(rows_of_layer(second)),
+        Formula::Less(first, second) => rows_of_both(first, second),
     }
 }
 

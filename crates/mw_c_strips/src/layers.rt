@@ -11,11 +11,12 @@ use mw_model::NoMemory;
 use mw_step_task::Step;
 use std::sync::Arc;
 
-/// An image, or what a rule makes of one.
+/// An image, what a rule makes of one, or what a second rule makes of what a first makes of one.
 #[derive(Clone, Copy)]
 pub(crate) enum Layer<'a> {
     Itself(ArrayImage<'a>),
     By(Rule<'a>, Origin<'a>),
+    Twice(Rule<'a>, Rule<'a>, ArrayImage<'a>),
 }
 
 /// A layer, or what a first layer has more than a second.
@@ -32,6 +33,8 @@ pub(crate) fn step_of(rule: Rule<'_>) -> Result<Step, NoMemory>
     Ok(match rule {
         Rule::Least(element) => Step::Erode(Arc::try_clone(element)?),
         Rule::Greatest(element) => Step::Dilate(Arc::try_clone(element)?),
+        Rule::LeastBox(offsets) => Step::ErodeBox(offsets),
+        Rule::GreatestBox(offsets) => Step::DilateBox(offsets),
         Rule::Nth(element, k) => Step::Rank(Arc::try_clone(element)?, k),
         Rule::AtLeast(k) => Step::AtLeast(k),
     })
@@ -44,5 +47,6 @@ pub(crate) fn origin_of(layer: Layer<'_>) -> Origin<'_>
     match layer {
         Layer::Itself(f) => Origin::Array(f),
         Layer::By(_, f) => f,
+        Layer::Twice(_, _, f) => Origin::Array(f),
     }
 }

@@ -5,7 +5,9 @@ ghost use Rattle.mw_model.specs.declared.shapes.Kind.TheVariants as kind;
 ghost use Rattle.mw_model.specs.Pictures.{sample};
 ghost use Rattle.mw_c_arrays.specs.Sources.{IsArrayImage, picture_in};
 
+use crate::by_pixel::made_at;
 use mw_c_arrays::ArrayImage;
+use mw_c_lent::Rule;
 use mw_pixel::Image;
 
 /// An image that strips are cut from.
@@ -40,9 +42,8 @@ fn level_in_array(f: ArrayImage<'_>, x: u32, y: u32) -> u16
 }
 
 impl<'a> Origin<'a> {
-    ghost use Rattle.std.specs.Prelude.{◌≡◌, ◌<◌};
-    ghost use Rattle.mw_model.specs.Pictures.{sample};
-    ghost use Rattle.mw_c_strips.specs.Origins.{IsOrigin, origin_picture};
+    ghost use Rattle.std.specs.Prelude.{◌≡◌};
+    ghost use Rattle.mw_c_strips.specs.Origins.{origin_picture};
 
     /// The columns.
     pub(crate) fn width(self) -> u32
@@ -63,28 +64,103 @@ impl<'a> Origin<'a> {
             Origin::Made(f) => f.height(),
         }
     }
+}
+
+/// The levels of an image, one at a time and without memory, wherever they stand or whatever makes them.
+pub(crate) trait Levels {
+    ghost use Rattle.std.specs.Prelude.{◌≡◌, ◌<◌};
+    ghost use Rattle.mw_model.specs.Pictures.{Picture, sample};
+
+    ghost image: { Self → Picture };
+
+    ghost sound: { Self → Type 0 };
+
+    /// The columns.
+    fn columns(&self) -> u32
+        ensures { result ≡ (image self.now).width };
+
+    /// The rows.
+    fn rows(&self) -> u32
+        ensures { result ≡ (image self.now).height };
 
     /// The greatest level that a sample may have.
-    pub(crate) fn maxval(self) -> u16
-        requires { IsOrigin self }
-        ensures { result ≡ (origin_picture self.entry).maxval }
-    {
-        match self {
+    fn maxval(&self) -> u16
+        requires { sound self.now }
+        ensures { result ≡ (image self.now).maxval };
+
+    /// The level in column x of row y.
+    fn level_in(&self, x: u32, y: u32) -> u16
+        requires sound { sound self.now }
+        requires across { x < (image self.now).width }
+        requires down { y < (image self.now).height }
+        ensures { result ≡ sample (image self.now) x y };
+}
+
+impl Levels for Origin<'_> {
+    ghost use Rattle.mw_c_strips.specs.Origins.{IsOrigin, origin_picture};
+
+    ghost image = { origin_picture };
+
+    ghost sound = { IsOrigin };
+
+    fn columns(&self) -> u32 {
+        self.width()
+    }
+
+    fn rows(&self) -> u32 {
+        self.height()
+    }
+
+    fn maxval(&self) -> u16 {
+        match *self {
             Origin::Array(f) => f.maxval(),
             Origin::Made(f) => f.maxval(),
         }
     }
 
-    /// The level in column x of row y.
-    pub(crate) fn level_in(self, x: u32, y: u32) -> u16
-        requires sound { IsOrigin self }
-        requires across { x < (origin_picture self).width }
-        requires down { y < (origin_picture self).height }
-        ensures { result ≡ sample (origin_picture self.entry) x y }
-    {
-        match self {
+    fn level_in(&self, x: u32, y: u32) -> u16 {
+        match *self {
             Origin::Array(f) => level_in_array(f, x, y),
             Origin::Made(f) => f.sample(x, y),
         }
+    }
+}
+
+/// What a first step makes of an array for a second. It stands nowhere: each level is made where it is asked for.
+#[derive(Clone, Copy)]
+pub(crate) struct Between<'a> {
+    pub rule: Rule<'a>,
+    pub f: ArrayImage<'a>,
+}
+
+impl Levels for Between<'_> {
+    ghost use Rattle.mw_c_arrays.specs.Sources.{IsArrayImage, picture_in};
+    ghost use Rattle.mw_c_lent.specs.Rules.{rule_picture};
+
+    ghost image = { λ b. rule_picture b.rule (picture_in b.f) };
+
+    ghost sound = { λ b. IsArrayImage b.f };
+
+    fn columns(&self) -> u32 {
+        self.f.width()
+    }
+
+    fn rows(&self) -> u32 {
+        self.f.height()
+    }
+
+    fn maxval(&self) -> u16 {
+        match self.rule {
+            Rule::Least(_) => self.f.maxval(),
+            Rule::Greatest(_) => self.f.maxval(),
+            Rule::LeastBox(_) => self.f.maxval(),
+            Rule::GreatestBox(_) => self.f.maxval(),
+            Rule::Nth(_, _) => self.f.maxval(),
+            Rule::AtLeast(_) => 1,
+        }
+    }
+
+    fn level_in(&self, x: u32, y: u32) -> u16 {
+        made_at(self.rule, &Origin::Array(self.f), x, y)
     }
 }

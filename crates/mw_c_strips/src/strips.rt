@@ -6,8 +6,10 @@ ghost use Rattle.mw_model.specs.Flat.{minus};
 ghost use Rattle.mw_model.specs.Laws.{SameShape};
 ghost use Rattle.mw_model.specs.Plans.{is_sum};
 ghost use Rattle.mw_model.specs.declared.limits.TheConstants.{SIDE_LIMIT};
+ghost use Rattle.mw_tile.specs.Windows.{window_of};
 ghost use Rattle.mw_step_task.specs.Meanings.{meaning};
 ghost use Rattle.mw_step_task.specs.WindowTasks.{FitsStep, IsBounded};
+ghost use Rattle.mw_c_arrays.specs.Sources.{IsArrayImage, picture_in};
 ghost use Rattle.mw_c_strips.specs.Layers.{IsFormula, formula_picture, layer_picture, origin_of, rule_picture};
 ghost use Rattle.mw_c_strips.specs.Origins.{IsOrigin, origin_picture};
 ghost use Rattle.mw_c_strips.specs.Parts.{IsStrip, made_picture, part_of, whole_window};
@@ -15,7 +17,8 @@ ghost use Rattle.mw_c_strips.specs.Parts.{IsStrip, made_picture, part_of, whole_
 use crate::layers::{Formula, Layer, step_of};
 use crate::origins::Origin;
 use crate::rows::rows;
-use crate::windows::window;
+use crate::windows::{standing, window};
+use mw_c_arrays::ArrayImage;
 use mw_c_lent::Rule;
 use mw_grid::{grown, whole_frame};
 use mw_model::{NoMemory, Rect, TaskId};
@@ -105,6 +108,43 @@ pub(crate) fn by_rule(
     made_of(alloc, step, strip, windows)
 }
 
+/// The window of some rows of what a rule makes of an array.
+fn window_between(
+    alloc: Global,
+    rule: Rule<'_>,
+    f: ArrayImage<'_>,
+    place: Rect,
+) -> Result<SharedWindow, NoMemory>
+    requires sound { IsArrayImage f }
+    requires strip { IsStrip place (picture_in f) }
+    ensures window { IfOk result (λ w. w ≡ window_of place (rule_picture rule.entry (picture_in f.entry))) }
+    ensures bounded { IfOk result IsBounded }
+{
+    let image = by_rule(alloc, rule, Origin::Array(f), place)?;
+    standing(alloc, f.width(), f.height(), place, &image)
+}
+
+/// The rows of a strip, as a second rule makes them of what a first makes of an array: of that only the rows that the second looks
+/// at are made.
+fn by_two_rules(
+    alloc: Global,
+    second: Rule<'_>,
+    first: Rule<'_>,
+    f: ArrayImage<'_>,
+    strip: Rect,
+) -> Result<Image, NoMemory>
+    requires sound { IsArrayImage f }
+    requires strip { IsStrip strip (picture_in f) }
+    ensures { IfOk result (λ g. g ≡ part_of (rule_picture second.entry (rule_picture first.entry (picture_in f.entry))) strip) }
+{
+    let step = step_of(second)?;
+    let beyond = step.reach();
+    let place = grown(strip, beyond, f.width(), f.height());
+    let seen = window_between(alloc, first, f, place)?;
+    let windows = alone(alloc, seen)?;
+    made_of(alloc, step, strip, windows)
+}
+
 /// The rows of a strip of a layer.
 fn layer_strip(alloc: Global, layer: Layer<'_>, strip: Rect) -> Result<Image, NoMemory>
     requires sound { IsOrigin (origin_of layer) }
@@ -114,6 +154,7 @@ fn layer_strip(alloc: Global, layer: Layer<'_>, strip: Rect) -> Result<Image, No
     match layer {
         Layer::Itself(f) => rows(alloc, f, strip),
         Layer::By(rule, f) => by_rule(alloc, rule, f, strip),
+        Layer::Twice(second, first, f) => by_two_rules(alloc, second, first, f, strip),
     }
 }
 
@@ -141,6 +182,39 @@ fn less(alloc: Global, a: &Image, b: &Image) -> Result<Image, NoMemory>
     made_of(alloc, Step::Minus, frame, windows)
 }
 
+/// Whether a layer is an image that stands in an array.
+fn is_itself(layer: Layer<'_>) -> bool {
+    match layer {
+        Layer::Itself(_) => true,
+        Layer::By(_, _) => false,
+        Layer::Twice(_, _, _) => false,
+    }
+}
+
+/// The rows of a strip of what a first layer has more than a second. The copy of rows that stand somewhere is made last, since what
+/// rules make wants more memory.
+fn strip_of_both(
+    alloc: Global,
+    first: Layer<'_>,
+    second: Layer<'_>,
+    strip: Rect,
+) -> Result<Image, NoMemory>
+    requires first { IsOrigin (origin_of first) }
+    requires second { IsOrigin (origin_of second) }
+    requires alike { SameShape (layer_picture second) (layer_picture first) }
+    requires strip { IsStrip strip (layer_picture first) }
+    ensures { IfOk result (λ g. g ≡ part_of (minus (layer_picture first.entry) (layer_picture second.entry)) strip) }
+{
+    if is_itself(first) {
+        let lower = layer_strip(alloc, second, strip)?;
+        let upper = layer_strip(alloc, first, strip)?;
+        return less(alloc, &upper, &lower);
+    }
+    let a = layer_strip(alloc, first, strip)?;
+    let b = layer_strip(alloc, second, strip)?;
+    less(alloc, &a, &b)
+}
+
 /// The rows of a strip.
 pub(crate) fn strip_of(alloc: Global, formula: Formula<'_>, strip: Rect) -> Result<Image, NoMemory>
     requires sound { IsFormula formula }
@@ -149,10 +223,6 @@ pub(crate) fn strip_of(alloc: Global, formula: Formula<'_>, strip: Rect) -> Resu
 {
     match formula {
         Formula::One(layer) => layer_strip(alloc, layer, strip),
-        Formula::Less(first, second) => {
-            let a = layer_strip(alloc, first, strip)?;
-            let b = layer_strip(alloc, second, strip)?;
-            less(alloc, &a, &b)
-        }
+        Formula::Less(first, second) => strip_of_both(alloc, first, second, strip),
     }
 }

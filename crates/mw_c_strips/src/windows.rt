@@ -38,7 +38,7 @@ fn pieces<P: Planar>(
 }
 
 /// The window of a frame that has the image in this place.
-fn standing(
+pub(crate) fn standing(
     alloc: Global,
     width: u32,
     height: u32,

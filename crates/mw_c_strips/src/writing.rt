@@ -226,6 +226,7 @@ fn middle_in<'a>(formula: Formula<'a>, first: u32, end: u32) -> Option<Middle<'a
         Formula::One(Layer::By(rule, Origin::Array(f))) => middle_of(rule, f, first, end),
         Formula::One(Layer::By(_, Origin::Made(_))) => None,
         Formula::One(Layer::Itself(_)) => None,
+        Formula::One(Layer::Twice(_, _, _)) => None,
         Formula::Less(_, _) => None,
     }
 }

@@ -1,3 +1,4 @@
+pub mod Costs
 pub mod TaskAnswers
 pub mod EventEffects
 -- what lower crates offer
@@ -5,3 +6,4 @@ pub mod mw_model_laws
 pub mod mw_core_laws
 pub mod mw_store
 pub mod mw_step_task
+pub mod mw_plan

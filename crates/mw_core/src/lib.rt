@@ -30,7 +30,7 @@ mod ready;
 mod tasks;
 
 pub use answers::{Finish, Refusal, Started};
-pub use bytes::{bytes_of_element, bytes_of_image};
+pub use bytes::bytes_of_element;
 pub use machine::Core;
 pub use mw_core_ledger::{Fetched, FetchedValue};
 pub use mw_model::NoMemory;

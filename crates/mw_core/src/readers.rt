@@ -1,6 +1,6 @@
 //! Looking at the core.
 
-ghost use Rattle.std.specs.Prelude.{◌≡◌, ◌<◌, ◌&&◌, ◌||◌, Some, is_some, length, slice_get};
+ghost use Rattle.std.specs.Prelude.{◌≡◌, ◌<◌, ◌≤◌, ◌&&◌, ◌||◌, Some, is_some, length, slice_get};
 
 use crate::machine::Core;
 use mw_model::{LogItem, Name};
@@ -13,6 +13,7 @@ impl Core {
     ghost use Rattle.mw_model.specs.Refusals.{ticket_of, outcome_at, is_done, is_released};
     ghost use Rattle.mw_model.specs.Machine.{Machine};
     ghost use Rattle.mw_model.specs.Stands.{StandsFor, is_wanted};
+    ghost use Rattle.mw_core.specs.Costs.{least_side};
 
     /// Whether the value of a ticket is kept: that of each done entry, and of a released one exactly while a pending
     /// entry has it as an input.
@@ -42,7 +43,10 @@ impl Core {
     }
 
     /// The least side that its tasks' tiles have, in pixels, as far as the frame lets them.
-    pub fn least_side(&self) -> u32 {
+    pub fn least_side(&self) -> u32
+        ensures value { result ≡ least_side self.now.side }
+        ensures some { 1 ≤ result }
+    {
         match self.ledger.side() {
             0 => LEAST_SUITED,
             side => side,

@@ -14,7 +14,7 @@ use mw_core_laws::gran::plan_of_legal;
 use mw_core_laws::plan::Input;
 use mw_core_laws::{PlanProgress, ResolvedRun, Store};
 use mw_grid::Grid;
-use mw_model::{Call, Name, NoMemory, Op, Shape};
+use mw_model::{Call, FlatOp, Name, NoMemory, Op, Shape};
 use std::alloc::Global;
 
 /// How far an input's element reaches to any side.
@@ -25,6 +25,24 @@ fn farthest(input: Input<'_>) -> u32 {
             reach.up.max(reach.down).max(reach.left).max(reach.right)
         }
         _ => 0,
+    }
+}
+
+/// Up to this maxval ranks count the levels as they are.
+const COUNTED: u16 = 4095;
+
+/// Under rectangles that reach up to this ranks are networks of comparisons.
+const SMALL: u32 = 2;
+
+/// Whether ranks under an element may go over numbers of levels, as `mw_rank_rows` does under rectangles.
+fn is_numbered(op: &Op, maxval: u16, element: Input<'_>) -> bool {
+    match (op, element) {
+        (Op::Flat(FlatOp::Rank(_, _, _)), Input::Element(element)) => {
+            maxval > COUNTED
+                && farthest(Input::Element(element)) > SMALL
+                && element.as_rectangle().is_some()
+        }
+        _ => false,
     }
 }
 
@@ -55,7 +73,11 @@ pub fn planned(
         unreachable!()
     };
     let plan = plan_of_legal(alloc, &op, run.a, run.b, run.c)?;
-    let tiles = side_for(side, farthest(run.b).max(farthest(run.c)));
+    let tiles = side_for(
+        side,
+        farthest(run.b).max(farthest(run.c)),
+        is_numbered(&op, maxval, run.b),
+    );
     let grid = Grid::new(width, height, tiles);
     PlanProgress::new(alloc, plan, grid, kind, maxval)
 }

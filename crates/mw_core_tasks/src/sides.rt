@@ -8,6 +8,9 @@ use mw_grid::side_ok;
 /// A reach up to this is small beside the usual side.
 const NEAR: u32 = 24;
 
+/// The side where ranks go over numbers of levels: at the frame's edge a tile goes another way, and a larger one loses more by it.
+const NUMBERED: u32 = 128;
+
 /// The usual side.
 const USUAL: u32 = 256;
 
@@ -21,13 +24,13 @@ const LARGE: u32 = 512;
 const LARGEST: u32 = 1024;
 
 /// The side of tiles that was asked for, or one that suits an element of this reach where tiles may not have that.
-pub(crate) fn side_for(asked: u32, reach: u32) -> u32
+pub(crate) fn side_for(asked: u32, reach: u32, is_numbered: bool) -> u32
     ensures { IsSideFor asked result }
 {
     if side_ok(asked) {
         asked
     } else if reach <= NEAR {
-        USUAL
+        if is_numbered { NUMBERED } else { USUAL }
     } else if reach <= FAR {
         LARGE
     } else {

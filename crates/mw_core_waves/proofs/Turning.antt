@@ -17,6 +17,7 @@ worked-on m old c new n h k = record {
   items = h.items ++ k.items;
   state = k.state;
   log = k.log ∙ ap (λ l. l ++ k.items) h.log ∙ append_assoc old.log h.items k.items;
+  side = k.side ∙ h.side;
   only = only_append h.items k.items h.only k.only;
   run = run_join h.items k.items m h.state k.state h.run k.run;
   stands = k.stands;
@@ -25,7 +26,7 @@ worked-on m old c new n h k = record {
 }
 
 pub worked-none : (m : Machine) (c : CoreView) → StandsFor c m → running_count c ≡ 0 → Worked m c c 0
-worked-none m c s none = record { items = []; state = m; log = sym (append-nil c.log); only = tt; run = refl; stands = s; idle = none; fewer = omega arith }
+worked-none m c s none = record { items = []; state = m; log = sym (append-nil c.log); side = refl; only = tt; run = refl; stands = s; idle = none; fewer = omega arith }
 
 -- when none is pending any more, all work was run
 pub worked-all : (m : Machine) (old new : CoreView) (n : ℕ) → StandsFor old m → (h : Worked m old new n) → NonePending h.state.table → AllWorked m old new
@@ -33,7 +34,9 @@ worked-all m old new n s h none = record {
   items = h.items;
   state = h.state;
   log = h.log;
+  side = h.side;
   only = h.only;
+  run = h.run;
   works = works_any_order h.items m h.state (reached old.log m s.run) h.only h.run none;
   stands = h.stands;
   idle = h.idle;

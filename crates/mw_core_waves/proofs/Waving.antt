@@ -269,10 +269,11 @@ less-gone old c new n a small (inr g) l = inl (omega (arith, small, g.0, l))
 
 -- an answer is handed back, and its task has ended
 hand-on : (m : Machine) (old c new : CoreView) (j : WaveTask) (jobs : List WaveTask) (n : ℕ) (id : TaskId) → n ≤ 1 → (h : Underway m old c (j ∷ jobs) n) → Ended c h.state id new
-    → ((w : WindowTask) → IsOf j w → w.task ≡ id) → Underway m old new jobs n
-hand-on m old c new j jobs n id small h e bears = record {
+    → ((w : WindowTask) → IsOf j w → w.task ≡ id) → new.side ≡ c.side → Underway m old new jobs n
+hand-on m old c new j jobs n id small h e bears side = record {
   items = h.items ++ e.items;
   state = e.state;
+  side = side ∙ h.side;
   log = e.log ∙ ap (λ l. l ++ e.items) h.log ∙ append_assoc old.log h.items e.items;
   only = only_append h.items e.items h.only e.only;
   run = run_join h.items e.items m h.state e.state h.run e.run;
@@ -291,10 +292,11 @@ hand-on m old c new j jobs n id small h e bears = record {
 }
 
 -- a ticket dies, and no answer is handed back
-die-on : (m : Machine) (old c new : CoreView) (jobs : List WaveTask) (n : ℕ) (id : TaskId) → (h : Underway m old c jobs n) → Ended c h.state id new → Underway m old new jobs 1
-die-on m old c new jobs n id h e = record {
+die-on : (m : Machine) (old c new : CoreView) (jobs : List WaveTask) (n : ℕ) (id : TaskId) → (h : Underway m old c jobs n) → Ended c h.state id new → new.side ≡ c.side → Underway m old new jobs 1
+die-on m old c new jobs n id h e side = record {
   items = h.items ++ e.items;
   state = e.state;
+  side = side ∙ h.side;
   log = e.log ∙ ap (λ l. l ++ e.items) h.log ∙ append_assoc old.log h.items e.items;
   only = only_append h.items e.items h.only e.only;
   run = run_join h.items e.items m h.state e.state h.run e.run;
@@ -313,6 +315,7 @@ hand-none : (m : Machine) (old c : CoreView) (j : WaveTask) (jobs : List WaveTas
 hand-none m old c j jobs n h none = record {
   items = h.items;
   state = h.state;
+  side = h.side;
   log = h.log;
   only = h.only;
   run = h.run;
@@ -348,8 +351,8 @@ same-gone old c new n (inr g) l r = inr (omega (arith, g.0, l), omega (arith, g.
 
 -- what is placed behind the tickets changes nothing that is counted
 places-past : (m : Machine) (old c new : CoreView) (d : WindowTask) (jobs : List WaveTask) (n : ℕ) → (h : Underway m old c (job.Ran (Ok d) ∷ jobs) n) → length c.table.names ≤ d.task.ticket
-    → Places c h.state d new → Underway m old new jobs n
-places-past m old c new d jobs n h past e =
+    → Places c h.state d new → new.side ≡ c.side → Underway m old new jobs n
+places-past m old c new d jobs n h past e side =
     let t = d.task.ticket in
     let tables : new.table ≡ c.table = e.stands.table ∙ sym h.stands.table in
     let names : length new.table.names ≡ length c.table.names = ap (λ (x : Table). length x.names) tables in
@@ -362,6 +365,7 @@ places-past m old c new d jobs n h past e =
       items = h.items;
       state = h.state;
       log = e.log ∙ h.log;
+      side = side ∙ h.side;
       only = h.only;
       run = h.run;
       stands = e.stands;
@@ -383,30 +387,30 @@ pub handed-own : (m : Machine) (old c : CoreView) (d : WindowTask) (jobs : List 
 handed-own m old c d jobs n h = true-own c h.state d h.tasks.0
 
 -- a result is handed back
-pub finish-hand : (m : Machine) (old c new : CoreView) (d : WindowTask) (jobs : List WaveTask) (n : ℕ) (f : Finish) → n ≤ 1 → (h : Underway m old c (job.Ran (Ok d) ∷ jobs) n) → AnswersFinish c h.state d f new → Underway m old new jobs n
-finish-hand m old c new d jobs n finish.Placed small h e = elim (cases_lt d.task.ticket (length c.table.names)) [
-  | inl here ↦ hand-on m old c new (job.Ran (Ok d)) jobs n d.task small h (places-ended c new h.state d h.stands here e) (λ w is. ap (λ (v : WindowTask). v.task) (sym is))
-  | inr past ↦ places-past m old c new d jobs n h past e
+pub finish-hand : (m : Machine) (old c new : CoreView) (d : WindowTask) (jobs : List WaveTask) (n : ℕ) (f : Finish) → n ≤ 1 → (h : Underway m old c (job.Ran (Ok d) ∷ jobs) n) → AnswersFinish c h.state d f new → new.side ≡ c.side → Underway m old new jobs n
+finish-hand m old c new d jobs n finish.Placed small h e side = elim (cases_lt d.task.ticket (length c.table.names)) [
+  | inl here ↦ hand-on m old c new (job.Ran (Ok d)) jobs n d.task small h (places-ended c new h.state d h.stands here e) (λ w is. ap (λ (v : WindowTask). v.task) (sym is)) side
+  | inr past ↦ places-past m old c new d jobs n h past e side
 ]
-finish-hand m old c new d jobs n (finish.Settled t) small h e =
+finish-hand m old c new d jobs n (finish.Settled t) small h e side =
     let sound = reached c.log h.state h.stands.run in
     let here : d.task.ticket < length c.table.names = omega (arith, e.ticket, e.can.within, sound.lengths.outcomes, ap (λ (w : Table). length w.names) h.stands.table) in
-    hand-on m old c new (job.Ran (Ok d)) jobs n d.task small h (settles-ended c new h.state d t h.stands here e) (λ w is. ap (λ (v : WindowTask). v.task) (sym is))
-finish-hand m old c new d jobs n finish.Late small h e =
+    hand-on m old c new (job.Ran (Ok d)) jobs n d.task small h (settles-ended c new h.state d t h.stands here e) (λ w is. ap (λ (v : WindowTask). v.task) (sym is)) side
+finish-hand m old c new d jobs n finish.Late small h e side =
     let P : CoreView → Type 0 = λ x. Underway m old x jobs n in
     subst P (sym e.1) (hand-none m old c (job.Ran (Ok d)) jobs n h (λ t k p r is. late-none c h.state d.task h.stands e.0 t k p r (ap (λ (v : WindowTask). v.task) (sym is))))
-finish-hand m old c new d jobs n finish.Stranger small h e =
+finish-hand m old c new d jobs n finish.Stranger small h e side =
     let P : CoreView → Type 0 = λ x. Underway m old x jobs n in
     subst P (sym e.2) (hand-none m old c (job.Ran (Ok d)) jobs n h (λ t k p r is. e.1 (running-result c h.state d t k p r is)))
 
 -- a refusal is handed back
-pub refuse-hand : (m : Machine) (old c new : CoreView) (r : TaskRefused) (jobs : List WaveTask) (n : ℕ) (a : Refusal) → n ≤ 1 → (h : Underway m old c (job.Ran (Err r) ∷ jobs) n) → AnswersRefusal c h.state r.task a new → Underway m old new jobs n
-refuse-hand m old c new r jobs n (refusal.Killed t) small h e =
-    hand-on m old c new (job.Ran (Err r)) jobs n r.task small h (kills-ended c new h.state t r.task h.stands (sym e.0) e.2) (λ w is. sym is)
-refuse-hand m old c new r jobs n refusal.Late small h e =
+pub refuse-hand : (m : Machine) (old c new : CoreView) (r : TaskRefused) (jobs : List WaveTask) (n : ℕ) (a : Refusal) → n ≤ 1 → (h : Underway m old c (job.Ran (Err r) ∷ jobs) n) → AnswersRefusal c h.state r.task a new → new.side ≡ c.side → Underway m old new jobs n
+refuse-hand m old c new r jobs n (refusal.Killed t) small h e side =
+    hand-on m old c new (job.Ran (Err r)) jobs n r.task small h (kills-ended c new h.state t r.task h.stands (sym e.0) e.2) (λ w is. sym is) side
+refuse-hand m old c new r jobs n refusal.Late small h e side =
     let P : CoreView → Type 0 = λ x. Underway m old x jobs n in
     subst P (sym e.1) (hand-none m old c (job.Ran (Err r)) jobs n h (λ t k p x is. late-none c h.state r.task h.stands e.0 t k p x (sym is)))
-refuse-hand m old c new r jobs n refusal.Stranger small h e =
+refuse-hand m old c new r jobs n refusal.Stranger small h e side =
     let P : CoreView → Type 0 = λ x. Underway m old x jobs n in
     subst P (sym e.2) (hand-none m old c (job.Ran (Err r)) jobs n h (λ t k p x is. e.1 (running-underway c h.state r.task t k p x is)))
 
@@ -450,6 +454,7 @@ take-work m old c new jobs n w h b =
       items = h.items;
       state = h.state;
       log = ap (λ (x : CoreView). x.log) b.started ∙ h.log;
+      side = ap (λ (x : CoreView). x.side) b.started ∙ h.side;
       only = h.only;
       run = h.run;
       stands = b.stands;
@@ -493,10 +498,10 @@ take-work m old c new jobs n w h b =
     }
 
 -- what the core answers to a worker that asks for a task
-pub take : (m : Machine) (old c new : CoreView) (jobs : List WaveTask) (n : ℕ) (s : Started) → (h : Underway m old c jobs n) → Starts c h.state s new → Took m old c jobs s new
-take m old c new jobs n (started.Work w) h e = take-work m old c new jobs n w h e
-take m old c new jobs n (started.Refused t) h e = die-on m old c new jobs n (record { ticket = t; step = 0; tile = 0 }) h (kills-ended c new h.state t (record { ticket = t; step = 0; tile = 0 }) h.stands refl e.1)
-take m old c new jobs n started.Idle h e = e
+pub take : (m : Machine) (old c new : CoreView) (jobs : List WaveTask) (n : ℕ) (s : Started) → (h : Underway m old c jobs n) → Starts c h.state s new → new.side ≡ c.side → Took m old c jobs s new
+take m old c new jobs n (started.Work w) h e side = take-work m old c new jobs n w h e
+take m old c new jobs n (started.Refused t) h e side = die-on m old c new jobs n (record { ticket = t; step = 0; tile = 0 }) h (kills-ended c new h.state t (record { ticket = t; step = 0; tile = 0 }) h.stands refl e.1) side
+take m old c new jobs n started.Idle h e side = e
 
 -- ---- the whole wave
 
@@ -504,6 +509,7 @@ pub wave-begins : (m : Machine) (c : CoreView) → StandsFor c m → running_cou
 wave-begins m c s none = record {
   items = [];
   state = m;
+  side = refl;
   log = sym (append-nil c.log);
   only = tt;
   run = refl;
@@ -517,6 +523,7 @@ wave-last : (m : Machine) (old c : CoreView) (j : WaveTask) (jobs : List WaveTas
 wave-last m old c j jobs n h = record {
   items = h.items;
   state = h.state;
+  side = h.side;
   log = h.log;
   only = h.only;
   run = h.run;
@@ -562,6 +569,7 @@ pub wave-run : (m : Machine) (old c : CoreView) (jobs : List WaveTask) (n : ℕ)
 wave-run m old c jobs n w a answered h = record {
   items = h.items;
   state = h.state;
+  side = h.side;
   log = h.log;
   only = h.only;
   run = h.run;
@@ -578,6 +586,7 @@ wave-kept : (m : Machine) (old c : CoreView) (jobs after : List WaveTask) (n : �
 wave-kept m old c jobs after n a h = record {
   items = h.items;
   state = h.state;
+  side = h.side;
   log = h.log;
   only = h.only;
   run = h.run;
@@ -598,6 +607,7 @@ wave-ends m old new h =
       items = h.items;
       state = h.state;
       log = h.log;
+      side = h.side;
       only = h.only;
       run = h.run;
       stands = h.stands;

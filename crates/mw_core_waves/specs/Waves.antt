@@ -48,6 +48,7 @@ pub record Underway (m : Machine) (old new : CoreView) (jobs : List WaveTask) (n
   pub items : List LogItem
   pub state : Machine
   pub log : new.log ≡ old.log ++ items
+  pub side : new.side ≡ old.side
   pub only : OnlyWork items
   pub run : Run m items state
   pub stands : StandsFor new state

@@ -19,6 +19,7 @@ pub record Worked (m : Machine) (old new : CoreView) (done : ℕ) : Type 0 where
   pub items : List LogItem
   pub state : Machine
   pub log : new.log ≡ old.log ++ items
+  pub side : new.side ≡ old.side
   pub only : OnlyWork items
   pub run : Run m items state
   pub stands : StandsFor new state
@@ -35,7 +36,9 @@ pub record AllWorked (m : Machine) (old new : CoreView) : Type 0 where
   pub items : List LogItem
   pub state : Machine
   pub log : new.log ≡ old.log ++ items
+  pub side : new.side ≡ old.side
   pub only : OnlyWork items
+  pub run : Run m items state
   pub works : Works true m (killed_in items) state
   pub stands : StandsFor new state
   pub idle : running_count new ≡ 0

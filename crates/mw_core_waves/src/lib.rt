@@ -25,7 +25,7 @@ pub use work::run_all_work;
 pub mod values {
     pub use mw_core::element::Element;
     pub use mw_core::pixel::Image;
-    pub use mw_core::{Fetched, bytes_of_element, bytes_of_image};
+    pub use mw_core::{Fetched, bytes_of_element};
 }
 
 pub mod payloads {

@@ -1,5 +1,4 @@
 -- the crate's own
-mod Areas
 mod Edges
 mod Flips
 mod Kept

@@ -1,12 +1,12 @@
 -- Numbers that are marked one after another.
 use Rattle.std.proofs.Common.{◌≡◌, ◌≢◌, ℕ, ◌+◌, ◌<◌, Bool, true, false, List, length, replicate, get_or, set, refl, ap, sym, subst, arith, ◌∙◌, inl, inr}
-use Rattle.std.specs.Prelude.{nat_le, if◌then◌else◌}
+use Rattle.std.specs.Prelude.{if◌then◌else◌}
 use Rattle.std.proofs.lemmas.Bool.{cases_lt, cases_eq, false≢true}
 use Rattle.std.proofs.lemmas.List.{get_or-set_same, get_or-set_other, length-set}
 use Rattle.mw_model.proofs.mw_facts.Elements.{get_or-replicate_same}
 use Rattle.mw_geodesic_runs.specs.declared.runs.Run.{Run}
 use Rattle.mw_geodesic_runs.specs.Runs.{run_numbered}
-use Rattle.mw_geodesic_kept.specs.Keeping.{mark_of, HasAsked, AreMarked, AreMarkedLarge}
+use Rattle.mw_geodesic_kept.specs.Keeping.{mark_of, HasAsked, AreMarked}
 
 pub none_marked : (count : ℕ) (marks : List Bool) → marks ≡ replicate count false → (k : ℕ) → mark_of marks k ≡ false
 none_marked count marks is k = ap (λ (t : List Bool). mark_of t k) is ∙ get_or-replicate_same count k false
@@ -73,23 +73,3 @@ marked_as Asked Asked' runs numbers n marks to from was = record {
   back = λ k mark. let asked = was.back k mark in record { at = asked.at; before = asked.before; number = asked.number; asked = to asked.at asked.before asked.asked };
   on = λ i lt asked. was.on i lt (from i lt asked);
 }
-
--- ---- by areas
-
-pub large_none : (least : ℕ) (areas : List ℕ) (marks : List Bool) → AreMarkedLarge least areas 0 marks
-large_none least areas marks k lt = absurd (omega arith)
-
-pub large_on : (least : ℕ) (areas : List ℕ) (marks marks' : List Bool) (n : ℕ) (mark : Bool) → n + 1 < length marks → marks' ≡ set marks (n + 1) mark → mark ≡ nat_le least (get_or areas n 0)
-    → AreMarkedLarge least areas n marks → AreMarkedLarge least areas (n + 1) marks'
-large_on least areas marks marks' n mark within is mark_is was k lt = elim (cases_eq k n) [
-  | inl same ↦
-      let at : k + 1 ≡ n + 1 = omega arith in
-      ap (λ (t : List Bool). mark_of t (k + 1)) is
-      ∙ ap (mark_of (set marks (n + 1) mark)) at
-      ∙ get_or-set_same marks (n + 1) mark false within
-      ∙ mark_is
-      ∙ ap (λ (t : ℕ). nat_le least (get_or areas t 0)) (sym same)
-  | inr ne ↦
-      let other : k + 1 ≢ n + 1 = λ e. ne (omega arith) in
-      ap (λ (t : List Bool). mark_of t (k + 1)) is ∙ get_or-set_other marks (n + 1) (k + 1) mark false other ∙ was k (omega arith)
-]

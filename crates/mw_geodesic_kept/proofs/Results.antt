@@ -8,20 +8,18 @@ use Rattle.mw_model.specs.Laws.{SameShape}
 use Rattle.mw_model.proofs.mw_facts.Elements.{get_or-replicate_same}
 use Rattle.mw_pixel.specs.Images.{set_of}
 use Rattle.mw_geodesic.specs.Geodesics.{reconstruction}
-use Rattle.mw_geodesic.specs.Components.{large_components}
 use Rattle.mw_geodesic_runs.specs.declared.runs.Run.{Run}
 use Rattle.mw_geodesic_runs.specs.Runs.{RunsBefore}
 use Rattle.mw_geodesic_runs.specs.declared.spans.Span.{Span}
 use Rattle.mw_geodesic_runs.specs.Components.{AreComponents, AreRunSpans}
 use Rattle.mw_geodesic_labels.specs.Painting.{HeldRuns}
-use Rattle.mw_geodesic_labels.specs.Gathering.{AreAreasOf, AreCounted}
+use Rattle.mw_geodesic_labels.specs.Gathering.{AreCounted}
 use Rattle.mw_geodesic_labels.proofs.Gathered.{are_wide}
 use Rattle.mw_geodesic_labels.proofs.HeldSpans.{held_known, of_known}
-use Rattle.mw_geodesic_kept.specs.Keeping.{LieInFrame, LieHeld, HasPixelOf, IsAtEdge, AreMarked, AreMarkedLarge, RunsWritten, IsKeptPart, touching_or_not}
+use Rattle.mw_geodesic_kept.specs.Keeping.{LieInFrame, LieHeld, HasPixelOf, IsAtEdge, AreMarked, RunsWritten, IsKeptPart, touching_or_not}
 use Rattle.mw_geodesic_kept.proofs.Kept.{lie, written_kept, one_part}
 use Rattle.mw_geodesic_kept.proofs.Rebuilt.{met_part}
 use Rattle.mw_geodesic_kept.proofs.Edges.{border_part}
-use Rattle.mw_geodesic_kept.proofs.Areas.{large_part}
 
 pub set_is : (p : Raster ℕ) → length p.cells ≡ p.height * p.width → All (λ s. s ≤ 1) p.cells → IsSet (set_of p)
 set_is p size small = record { picture = record { size = size; bounded = small }; kind = refl; maxval = refl }
@@ -92,11 +90,3 @@ pub of_counted : (Holds : List Run → Type 0) (e : List Offset) (f : Picture) (
     → ((held : HeldRuns (λ runs. AreCounted runs numbers count) h spans starts numbers) → Holds held.runs) → Holds are.some.runs
 of_counted Holds e f spans starts numbers count h few are tall of =
     of_known (λ runs. AreCounted runs numbers count) Holds e f spans starts numbers count h are tall (counted_by e f are.some.runs numbers count few (are.each are.some.runs are.some.cut)) of
-
-pub large_by : (e : List Offset) (f g : Picture) (runs : List Run) (numbers areas areas' : List ℕ) (marks marks' : List Bool) (count least : ℕ) → AreComponents e f runs numbers count → areas' ≡ areas → length areas' ≡ count → marks' ≡ marks
-    → AreAreasOf runs numbers (length runs) count areas → AreMarkedLarge least areas' (length areas') marks → IsKeptPart f runs numbers marks' true g → g ≡ large_components e least f
-large_by e f g runs numbers areas areas' marks marks' count least are same_areas size same told marked part =
-    let marked' : AreMarkedLarge least areas count marks' =
-    subst (λ (t : List Bool). AreMarkedLarge least areas count t) (sym same)
-    (subst (λ (t : List ℕ). AreMarkedLarge least t count marks) same_areas (subst (λ (n : ℕ). AreMarkedLarge least areas' n marks) size marked)) in
-    one_part f g (large_components e least f) runs numbers marks' true are.set are.cut part (large_part e f runs numbers areas marks' count least are told marked')

@@ -1,5 +1,5 @@
 -- Which components are kept, by marks of their numbers, and what is then left of a set.
-use Rattle.std.specs.Prelude.{◌≡◌, ℕ, ◌+◌, ◌*◌, ◌<◌, ◌≤◌, ◌⊎◌, Bool, true, false, List, length, slice_index, slice_index_or, nat_le}
+use Rattle.std.specs.Prelude.{◌≡◌, ℕ, ◌+◌, ◌*◌, ◌<◌, ◌≤◌, ◌⊎◌, Bool, true, false, List, length, slice_index, slice_index_or}
 use Rattle.mw_model.specs.Pictures.{Picture, sample}
 use Rattle.mw_model.specs.Laws.{SameShape}
 use Rattle.mw_model.specs.declared.offsets.Offset.{Offset}
@@ -49,10 +49,6 @@ pub record HasAsked (Asked : Run → Type 0) (runs : List Run) (numbers : List �
 pub record AreMarked (Asked : Run → Type 0) (runs : List Run) (numbers : List ℕ) (n : ℕ) (marks : List Bool) : Type 0 where
   pub back : (k : ℕ) → mark_of marks k ≡ true → HasAsked Asked runs numbers n k
   pub on : (i : ℕ) → i < n → Asked (run_numbered runs i) → mark_of marks (slice_index numbers i) ≡ true
-
--- the marks of the numbers of the first n areas, from 1 up, tell whether each is this large or larger
-abbrev pub AreMarkedLarge : ℕ → List ℕ → ℕ → List Bool → Type 0
-AreMarkedLarge least areas n marks = (k : ℕ) → k < n → mark_of marks (k + 1) ≡ nat_le least (slice_index areas k)
 
 -- in those of the first n runs whose numbers have the wanted mark the new picture is as the set, and elsewhere as the old one
 pub record RunsWritten (set : Picture) (runs : List Run) (numbers : List ℕ) (marks : List Bool) (wanted : Bool) (n : ℕ) (old new : Picture) : Type 0 where

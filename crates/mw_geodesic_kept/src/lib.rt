@@ -3,15 +3,13 @@
 //!
 //! ```text
 //! let rebuilt = reconstruction_of_set(alloc, &marker, &mask, Neighbours::Eight)?;
-//! let large = large_components_of_set(alloc, &set, Neighbours::Four, 20)?;      // those of 20 pixels and more
-//! write_large_components(alloc, set, Neighbours::Four, 20, &mut out)?;          // the same, a byte for each pixel
+//! write_large_components(alloc, set, Neighbours::Four, 20, &mut out)?;          // those of 20 pixels and more, a byte for each pixel
 //! ```
 //!
 //! The set is cut to runs with the numbers of their components, held as spans (`mw_geodesic_runs`). Each number that is asked
 //! for is marked, and then the runs whose numbers have the mark are written into an empty plane, 64 pixels at a time. So beside
-//! what the spans take there is a byte for each component, for area openings four more, and for holes two planes more. An area
-//! opening that is written to an array takes four for each component and no plane, since it writes over the numbers of the runs
-//! whether they stay.
+//! what the spans take there is a byte for each component, and for holes two planes more. An area opening is written to an array,
+//! and takes four for each component and no plane, since it writes over the numbers of the runs whether they stay.
 #![tactic(auto)]
 
 mod border;
@@ -23,7 +21,7 @@ mod reconstruction;
 mod showing;
 
 pub use border::{border_cleared_of_set, holes_filled_of_set};
-pub use large::{large_components_of_set, write_large_components};
+pub use large::write_large_components;
 pub use mw_geodesic_runs::Neighbours;
 pub use mw_model::NoMemory;
 pub use reconstruction::reconstruction_of_set;

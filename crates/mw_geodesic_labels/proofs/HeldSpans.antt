@@ -1,5 +1,5 @@
 -- Runs that are held as spans, row by row.
-use Rattle.std.proofs.Common.{◌≡◌, ℕ, ◌+◌, ◌*◌, ◌^◌, ◌<◌, ◌≤◌, List, length, get_or, replicate, refl, ap, sym, subst, arith, ◌∙◌, inl, inr}
+use Rattle.std.proofs.Common.{◌≡◌, ℕ, ◌+◌, ◌*◌, ◌/◌, ◌^◌, ◌<◌, ◌≤◌, List, length, get_or, replicate, refl, ap, sym, subst, arith, ◌∙◌, inl, inr}
 use Rattle.std.proofs.lemmas.Bool.{cases_lt}
 use Rattle.mw_model.specs.Pictures.{Picture}
 use Rattle.mw_model.specs.declared.offsets.Offset.{Offset}
@@ -7,16 +7,15 @@ use Rattle.mw_geodesic_runs.specs.declared.runs.Run.{Run}
 use Rattle.mw_geodesic_runs.specs.declared.spans.Span.{Span}
 use Rattle.mw_geodesic_runs.specs.Runs.{run_numbered, RunsBefore}
 use Rattle.mw_geodesic_runs.specs.Rows.{span_numbered, AreCutAbove}
-use Rattle.mw_geodesic_runs.specs.Components.{AreRunSpans}
+use Rattle.mw_geodesic_runs.specs.Components.{AreComponents, AreRunSpans}
 use Rattle.mw_geodesic_runs.proofs.RowsOfAll.{same_fields, split, cut_all, cut_within, cut_first}
 use Rattle.mw_geodesic.specs.Labels.{IsLabelling}
-use Rattle.mw_geodesic_labels.specs.declared.regions.Region.{Region}
-use Rattle.mw_geodesic_labels.specs.Regions.{AreRegionsOf}
-use Rattle.mw_geodesic_labels.specs.Gathering.{AreWide, AreGathered}
+use Rattle.mw_geodesic_labels.specs.Regions.{HasComponents, AreRegionsTold}
+use Rattle.mw_geodesic_labels.specs.Gathering.{AreCounted, AreRowsGathered}
 use Rattle.mw_geodesic_labels.specs.Painting.{painted_runs, begin_of, stop_of, run_of, RunsFit, HeldRuns}
-use Rattle.mw_geodesic_labels.proofs.Paintings.{runs_fit}
+use Rattle.mw_geodesic_labels.proofs.Paintings.{blank, runs_fit}
 use Rattle.mw_geodesic_labels.proofs.Gathered.{are_wide}
-use Rattle.mw_geodesic_labels.proofs.Results.{labels_by, regions_by, many_by}
+use Rattle.mw_geodesic_labels.proofs.Results.{labels_by, regions_by, many_by, told_written}
 
 -- the rows of runs that are held
 record IsRow (runs : List Run) (y n n' : ℕ) : Type 0 where
@@ -146,13 +145,6 @@ held_fit e f spans spans' starts starts' numbers numbers' count w h size are wid
     held_as (RunsFit w size) f.height h spans spans' starts starts' numbers numbers' high same same_starts same_numbers
     (held_runs (RunsFit w size) e f spans starts numbers count are (frame_fit f are.some.runs w size are.some.cut wide is))
 
-pub held_wide : (e : List Offset) (f : Picture) (spans spans' : List Span) (starts starts' numbers numbers' : List ℕ) (count h : ℕ) → f.height * f.width < 2 ^ 32 → AreRunSpans e f spans starts numbers count → h ≡ f.height → spans' ≡ spans → starts' ≡ starts
-    → numbers' ≡ numbers → HeldRuns (λ runs. AreWide runs numbers' count) h spans' starts' numbers'
-held_wide e f spans spans' starts starts' numbers numbers' count h few are high same same_starts same_numbers =
-    let wide : AreWide are.some.runs numbers' count = subst (λ (t : List ℕ). AreWide are.some.runs t count) (sym same_numbers) (are_wide e f are.some.runs numbers count few (are.each are.some.runs are.some.cut)) in
-    held_as (λ runs. AreWide runs numbers' count) f.height h spans spans' starts starts' numbers numbers' high same same_starts same_numbers
-    (held_runs (λ runs. AreWide runs numbers' count) e f spans starts numbers count are wide)
-
 pub held_labels : (e : List Offset) (f : Picture) (spans spans' : List Span) (starts starts' numbers numbers' labels : List ℕ) (count w h size : ℕ) → AreRunSpans e f spans starts numbers count → w ≡ f.width → h ≡ f.height → spans' ≡ spans → starts' ≡ starts
     → numbers' ≡ numbers → size ≡ f.height * f.width → OfHeld (RunsFit w size) (λ runs. labels ≡ painted_runs w runs numbers' (length runs) (replicate size 0)) h spans' starts' numbers' → IsLabelling e f count labels
 unfolding held_runs
@@ -163,19 +155,41 @@ held_labels e f spans spans' starts starts' numbers numbers' labels count w h si
     of_held (RunsFit w size) (λ runs. labels ≡ painted_runs w runs numbers' (length runs) (replicate size 0)) f.height h spans spans' starts starts' numbers numbers' high same same_starts same_numbers made held in
     labels_by e f runs runs numbers numbers' count w (replicate size 0) labels labels (are.each runs are.some.cut) wide refl same_numbers (ap (λ (t : ℕ). replicate t 0) is) painted refl
 
--- the regions of components, which are as many as these
-pub record AreTold (e : List Offset) (f : Picture) (count : ℕ) (regions : List Region) : Type 0 where
-  pub are : AreRegionsOf e f regions
-  pub many : length regions ≡ count
+-- the set has as many components as its runs
+pub held_components : (e : List Offset) (f : Picture) (spans : List Span) (starts numbers : List ℕ) (count : ℕ) → AreRunSpans e f spans starts numbers count → HasComponents e f count
+held_components e f spans starts numbers count are =
+    let runs = are.some.runs in
+    let none = blank (f.height * f.width) in
+    let labels = painted_runs f.width runs numbers (length runs) none in
+    record { labels = labels; labelling = labels_by e f runs runs numbers numbers count f.width none labels labels (are.each runs are.some.cut) refl refl refl refl refl refl }
 
-pub held_regions : (e : List Offset) (f : Picture) (spans spans' : List Span) (starts starts' numbers numbers' : List ℕ) (count h : ℕ) (regions : List Region) → f.height * f.width < 2 ^ 32 → AreRunSpans e f spans starts numbers count → h ≡ f.height → spans' ≡ spans
-    → starts' ≡ starts → numbers' ≡ numbers → OfHeld (λ runs. AreWide runs numbers' count) (λ runs. AreGathered runs numbers' (length runs) regions) h spans' starts' numbers' → AreTold e f count regions
+-- runs as rows of so many places are made of them
+are_counted : (e : List Offset) (f : Picture) (runs : List Run) (numbers : List ℕ) (count most : ℕ) → f.height * f.width < 2 ^ 32 → AreComponents e f runs numbers count → count ≤ most → AreCounted runs numbers most
+are_counted e f runs numbers count most few comps le =
+    let wide = are_wide e f runs numbers count few comps in
+    record {
+      wide = record { size = wide.size; run = wide.run; some = wide.some; steps = wide.steps; fits = wide.fits };
+      most = λ i lt. let low = comps.most i lt in omega arith;
+    }
+
+pub held_counted : (e : List Offset) (f : Picture) (spans spans' : List Span) (starts starts' numbers numbers' : List ℕ) (count most h : ℕ) → f.height * f.width < 2 ^ 32 → AreRunSpans e f spans starts numbers count → count ≤ most → h ≡ f.height → spans' ≡ spans
+    → starts' ≡ starts → numbers' ≡ numbers → HeldRuns (λ runs. AreCounted runs numbers' most) h spans' starts' numbers'
+held_counted e f spans spans' starts starts' numbers numbers' count most h few are le high same same_starts same_numbers =
+    let runs = are.some.runs in
+    let counted : AreCounted runs numbers' most = subst (λ (t : List ℕ). AreCounted runs t most) (sym same_numbers) (are_counted e f runs numbers count most few (are.each runs are.some.cut) le) in
+    held_as (λ runs. AreCounted runs numbers' most) f.height h spans spans' starts starts' numbers numbers' high same same_starts same_numbers
+    (held_runs (λ runs. AreCounted runs numbers' most) e f spans starts numbers count are counted)
+
+-- the rows that are gathered tell of the regions
+pub held_rows : (e : List Offset) (f : Picture) (spans spans' : List Span) (starts starts' numbers numbers' : List ℕ) (count h : ℕ) (old new : List ℕ) (n : ℕ) → f.height * f.width < 2 ^ 32 → AreRunSpans e f spans starts numbers count → 7 * count ≤ length old → h ≡ f.height
+    → spans' ≡ spans → starts' ≡ starts → numbers' ≡ numbers → OfHeld (λ runs. AreCounted runs numbers' (length old / 7)) (λ runs. AreRowsGathered runs numbers' (length runs) old n new) h spans' starts' numbers' → AreRegionsTold e f count old new
 unfolding held_runs
-held_regions e f spans spans' starts starts' numbers numbers' count h regions few are high same same_starts same_numbers made =
+held_rows e f spans spans' starts starts' numbers numbers' count h old new n few are room high same same_starts same_numbers made =
     let runs = are.some.runs in
     let comps = are.each runs are.some.cut in
-    let wide : AreWide runs numbers' count = subst (λ (t : List ℕ). AreWide runs t count) (sym same_numbers) (are_wide e f runs numbers count few comps) in
-    let held = held_runs (λ runs. AreWide runs numbers' count) e f spans starts numbers count are wide in
-    let told : AreGathered runs numbers' (length runs) regions =
-    of_held (λ runs. AreWide runs numbers' count) (λ runs. AreGathered runs numbers' (length runs) regions) f.height h spans spans' starts starts' numbers numbers' high same same_starts same_numbers made held in
-    record { are = regions_by e f runs runs numbers numbers' count regions comps refl same_numbers told; many = many_by e f runs runs numbers numbers' count regions comps refl same_numbers told }
+    let counted : AreCounted runs numbers' (length old / 7) = subst (λ (t : List ℕ). AreCounted runs t (length old / 7)) (sym same_numbers) (are_counted e f runs numbers count (length old / 7) few comps (omega arith)) in
+    let held = held_runs (λ runs. AreCounted runs numbers' (length old / 7)) e f spans starts numbers count are counted in
+    let told : AreRowsGathered runs numbers' (length runs) old n new =
+    of_held (λ runs. AreCounted runs numbers' (length old / 7)) (λ runs. AreRowsGathered runs numbers' (length runs) old n new) f.height h spans spans' starts starts' numbers numbers' high same same_starts same_numbers made held in
+    told_written e f count old new told.regions (regions_by e f runs runs numbers numbers' count told.regions comps refl same_numbers told.are)
+    (sym (many_by e f runs runs numbers numbers' count told.regions comps refl same_numbers told.are)) told.rows room

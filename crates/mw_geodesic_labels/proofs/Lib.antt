@@ -4,6 +4,8 @@ pub mod HeldSpans
 pub mod Labellings
 pub mod Paintings
 pub mod RegionLaws
+pub mod Results
+pub mod RowsWritten
 pub mod RunAreas
 pub mod Told
 pub mod Written
@@ -12,5 +14,4 @@ mod CountedLabels
 mod DefinedLabels
 mod FirstPlaces
 mod Overwritten
-mod Results
 mod Shown

@@ -1,9 +1,10 @@
 -- How regions are gathered from runs, which come one after another.
-use Rattle.std.specs.Prelude.{◌≡◌, ℕ, zero, suc, ◌+◌, ◌-◌, ◌<◌, ◌≤◌, ◌==◌, ◌++◌, List, [], ◌∷◌, length, min, max, slice_index, slice_index_or, slice_set, if◌then◌else◌, ◌^◌}
+use Rattle.std.specs.Prelude.{◌≡◌, ℕ, zero, suc, ◌+◌, ◌-◌, ◌*◌, ◌<◌, ◌≤◌, ◌==◌, ◌++◌, List, [], ◌∷◌, length, drop, min, max, slice_index, slice_index_or, slice_set, if◌then◌else◌, ◌^◌}
 use Rattle.mw_geodesic_runs.specs.declared.runs.Run.{Run}
 use Rattle.mw_geodesic_labels.specs.declared.regions.Region.{Region}
 use Rattle.mw_geodesic_runs.specs.Runs.{run_numbered}
 use Rattle.mw_geodesic_runs.specs.Forests.{StandsBefore}
+use Rattle.mw_geodesic_labels.specs.Regions.{region_rows}
 
 -- a region without places, which stands behind the end of a list
 abbrev pub no_region : Region
@@ -103,3 +104,42 @@ pub record AreWide (runs : List Run) (numbers : List ℕ) (count : ℕ) : Type 0
 pub record AreCounted (runs : List Run) (numbers : List ℕ) (count : ℕ) : Type 0 where
   pub wide : AreWide runs numbers count
   pub most : (i : ℕ) → i < length runs → slice_index numbers i ≤ count
+
+-- ---- regions in rows
+
+-- the numbers of the regions in place of the first of a list
+abbrev pub rows_over : List Region → List ℕ → List ℕ
+rows_over regions old = region_rows regions ++ drop (7 * length regions) old
+
+-- the seven numbers from a place on are those of the region
+pub record HasRegionAt (out : List ℕ) (at : ℕ) (r : Region) : Type 0 where
+  pub x : slice_index out at ≡ r.x
+  pub y : slice_index out (at + 1) ≡ r.y
+  pub area : slice_index out (at + 2) ≡ r.area
+  pub left : slice_index out (at + 3) ≡ r.left
+  pub top : slice_index out (at + 4) ≡ r.top
+  pub right : slice_index out (at + 5) ≡ r.right
+  pub bottom : slice_index out (at + 6) ≡ r.bottom
+
+-- the list has the rows of so many regions, to which the run can be added, and there is room for the row of its number
+pub record CanAddToRows (run : Run) (number count : ℕ) (out : List ℕ) : Type 0 where
+  pub regions : List Region
+  pub before : List ℕ
+  pub can : CanAdd run number regions
+  pub many : count ≡ length regions
+  pub rows : out ≡ rows_over regions before
+  pub room : 7 * number ≤ length before
+
+-- it has the rows of so many regions, to which the run is added
+pub record AreRowsAdded (run : Run) (number : ℕ) (regions : List Region) (before : List ℕ) (count : ℕ) (out : List ℕ) : Type 0 where
+  pub now : List Region
+  pub added : RunAdded run number regions now
+  pub many : count ≡ length now
+  pub rows : out ≡ rows_over now before
+
+-- it has the rows of as many regions as the first i runs have numbers, in place of the first of an old list
+pub record AreRowsGathered (runs : List Run) (numbers : List ℕ) (i : ℕ) (old : List ℕ) (count : ℕ) (new : List ℕ) : Type 0 where
+  pub regions : List Region
+  pub are : AreGathered runs numbers i regions
+  pub many : count ≡ length regions
+  pub rows : new ≡ rows_over regions old

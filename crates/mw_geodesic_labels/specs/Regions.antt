@@ -1,5 +1,5 @@
 -- What is told of the components of a set: of each its first place, its area and the least box around it.
-use Rattle.std.specs.Prelude.{◌≡◌, ◌==◌, ℕ, ◌+◌, ◌*◌, ◌<◌, ◌≤◌, List, length, count_by, slice_index_or}
+use Rattle.std.specs.Prelude.{◌≡◌, ◌==◌, ℕ, ◌+◌, ◌*◌, ◌<◌, ◌≤◌, List, [], ◌∷◌, ◌++◌, length, count_by, drop, flat_map, slice_index_or}
 use Rattle.mw_model.specs.declared.offsets.Offset.{Offset}
 use Rattle.mw_model.specs.Pictures.{Picture}
 use Rattle.mw_geodesic.specs.Neighbours.{IsPlace}
@@ -46,11 +46,39 @@ pub record AreRegionsOf (element : List Offset) (f : Picture) (regions : List Re
   pub labelling : IsLabelling element f (length regions) labels
   pub each : (k : ℕ) (d : Region) → k < length regions → IsRegion f labels (k + 1) (slice_index_or regions k d)
 
--- the regions are those of the set, and where there are at most so many, the new list has its labels; else it is the old one
-pub record AreRegionsWithLabels (element : List Offset) (f : Picture) (most : ℕ) (old new : List ℕ) (regions : List Region) : Type 0 where
+-- ---- regions that are written
+
+-- the seven numbers of a component
+abbrev pub region_row : Region → List ℕ
+region_row r = r.x ∷ r.y ∷ r.area ∷ r.left ∷ r.top ∷ r.right ∷ r.bottom ∷ []
+
+-- those of each component
+abbrev pub region_rows : List Region → List ℕ
+region_rows regions = flat_map region_row regions
+
+-- the first places have the numbers of the components, which are so many, and those behind them are as they were
+pub record AreRegionsWritten (element : List Offset) (f : Picture) (count : ℕ) (old new : List ℕ) : Type 0 where
+  pub regions : List Region
   pub are : AreRegionsOf element f regions
-  pub labels : length regions ≤ most → IsLabelling element f (length regions) new
-  pub unlabelled : most < length regions → new ≡ old
+  pub counted : count ≡ length regions
+  pub written : new ≡ region_rows regions ++ drop (7 * count) old
+
+-- the set has so many components
+pub record HasComponents (element : List Offset) (f : Picture) (count : ℕ) : Type 0 where
+  pub labels : List ℕ
+  pub labelling : IsLabelling element f count labels
+
+-- the set has so many components; where there is room for the numbers of all of them, they are written, and else nothing is
+pub record AreRegionsTold (element : List Offset) (f : Picture) (count : ℕ) (old new : List ℕ) : Type 0 where
+  pub components : HasComponents element f count
+  pub written : 7 * count ≤ length old → AreRegionsWritten element f count old new
+  pub unwritten : length old < 7 * count → new ≡ old
+
+-- the regions are told in one list; and where there is room for all of them, another list has the labels of the set, and else is as it was
+pub record AreRegionsWithLabels (element : List Offset) (f : Picture) (count : ℕ) (old_rows rows old new : List ℕ) : Type 0 where
+  pub told : AreRegionsTold element f count old_rows rows
+  pub labels : 7 * count ≤ length old_rows → IsLabelling element f count new
+  pub unlabelled : length old_rows < 7 * count → new ≡ old
 
 -- the region in natural numbers, as the definition of components tells it
 abbrev pub region_told : Region → ToldRegion

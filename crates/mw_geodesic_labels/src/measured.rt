@@ -5,28 +5,30 @@ ghost use Rattle.mw_pixel.specs.Images.{set_of};
 ghost use Rattle.mw_geodesic.specs.Neighbours.{neighbours_of};
 ghost use Rattle.mw_geodesic_labels.specs.Regions.{AreRegionsWithLabels};
 
+use crate::Neighbours;
 use crate::painting::write_spans;
-use crate::regions::gather_spans;
-use crate::{Neighbours, Region};
+use crate::regions::gather_rows;
+use crate::rows::NUMBERS;
 use mw_geodesic_runs::spans_of;
 use mw_model::NoMemory;
 use mw_pixel::{Bit, Plane};
 use std::alloc::Global;
 
-/// What is told of each component of a set, by first places; and where there are at most so many, its labels, written into an
-/// array. It may want memory (`NoMemory`), and the array is then as it was.
+/// Writes what is told of each component of a set into an array, by first places, and the labels of the set into another, where
+/// there is room for what is told of all. The answer is how many there are. It may want memory (`NoMemory`), and both arrays are
+/// then as they were.
 pub fn label_and_measure(
     alloc: Global,
     set: &Plane<Bit>,
     neighbours: Neighbours,
-    most: usize,
+    rows: &mut [u32],
     out: &mut [u32],
-) -> Result<Vec<Region>, NoMemory>
+) -> Result<u32, NoMemory>
     requires narrow { set.now.width < 2 ^ 16 }
     requires few { set.now.height * set.now.width < 2 ^ 32 }
     requires room { length out.old ≡ set.now.height * set.now.width }
-    ensures made { IfOk result (λ r. AreRegionsWithLabels (neighbours_of neighbours) (set_of set.now) most out.old out.new r.items) }
-    ensures kept { IfErr result (λ _. out.new ≡ out.old) }
+    ensures made { IfOk result (λ count. AreRegionsWithLabels (neighbours_of neighbours) (set_of set.now) count rows.old rows.new out.old out.new) }
+    ensures kept { IfErr result (λ _. (rows.new ≡ rows.old) × (out.new ≡ out.old)) }
 {
     let width = set.width();
     let height = set.height();
@@ -34,9 +36,11 @@ pub fn label_and_measure(
     let spans = found.spans.as_slice();
     let starts = found.starts.as_slice();
     let numbers = found.numbers.as_slice();
-    let regions = gather_spans(alloc, height, spans, starts, numbers, found.count)?;
-    if regions.len() <= most {
+    let count = found.count;
+    let room = rows.len() / NUMBERS;
+    if count as usize <= room {
+        gather_rows(rows, height, spans, starts, numbers);
         write_spans(out, width, height, spans, starts, numbers);
     }
-    Ok(regions)
+    Ok(count)
 }

@@ -1,14 +1,15 @@
-//! What is told of each component of a set.
+//! What is told of each component of a set, gathered run by run in rows of an array, so that no list of it stands beside them.
+//! `mw_c_geodesic` calls it with the caller's array. All memory is asked for before the first row is written.
 
-ghost use Rattle.std.specs.Prelude.{◌≡◌, ℕ, ◌+◌, ◌-◌, ◌*◌, ◌<◌, ◌≤◌, ◌^◌, length, slice_index, vec_len, IfOk, OnOk};
+ghost use Rattle.std.specs.Prelude.{◌≡◌, ◌+◌, ◌-◌, ◌*◌, ◌/◌, ◌<◌, ◌^◌, length, IfErr, IfOk};
 ghost use Rattle.mw_pixel.specs.Images.{set_of};
 ghost use Rattle.mw_geodesic.specs.Neighbours.{neighbours_of};
-ghost use Rattle.mw_geodesic_runs.specs.Runs.{run_numbered};
 ghost use Rattle.mw_geodesic_labels.specs.Painting.{HeldRuns};
-ghost use Rattle.mw_geodesic_labels.specs.Regions.{AreRegionsOf};
-ghost use Rattle.mw_geodesic_labels.specs.Gathering.{TellsRun, TellsMore, AreGathered, RunAdded, CanAdd, AreWide};
+ghost use Rattle.mw_geodesic_labels.specs.Regions.{AreRegionsTold};
+ghost use Rattle.mw_geodesic_labels.specs.Gathering.{TellsRun, TellsMore, AreCounted, CanAddToRows, AreRowsAdded, AreRowsGathered};
 
 use crate::Neighbours;
+use crate::rows::{NUMBERS, put_row, row_at};
 use mw_geodesic_runs::{Run, Span, spans_of};
 use mw_model::NoMemory;
 use mw_pixel::{Bit, Plane};
@@ -60,33 +61,34 @@ fn with_run(region: Region, run: Run) -> Region
     }
 }
 
-/// Adds a run to what is told of the component with this number, which may be the next one.
-fn add_run(regions: &mut Vec<Region>, run: Run, number: u32) -> Result<(), NoMemory>
-    requires { CanAdd run number regions.old.items }
-    ensures { OnOk result (RunAdded run number regions.old.items regions.new.items) }
+/// Adds a run to the row of the component with this number, which may be the next one behind so many. The answer is how many
+/// rows there are then.
+fn add_run(out: &mut [u32], count: usize, run: Run, number: u32) -> usize
+    requires { CanAddToRows run number count out.old }
+    ensures { (can : CanAddToRows run number count out.old) → AreRowsAdded run number can.regions can.before result out.new }
 {
     let k = number as usize - 1;
-    if k == regions.len() {
-        regions.push(region_of(run))?;
-    } else {
-        regions[k] = with_run(regions[k], run);
+    if k == count {
+        put_row(out, NUMBERS * k, region_of(run));
+        return count + 1;
     }
-    Ok(())
+    let region = row_at(out, NUMBERS * k);
+    put_row(out, NUMBERS * k, with_run(region, run));
+    count
 }
 
-/// What is told of each component, by its runs, which are held row by row.
-pub(crate) fn gather_spans(
-    alloc: Global,
+/// Writes the row of each component by its runs, which are held row by row. The answer is how many there are.
+pub(crate) fn gather_rows(
+    out: &mut [u32],
     height: u32,
     spans: &[Span],
     starts: &[u32],
     numbers: &[u32],
-    count: u32,
-) -> Result<Vec<Region>, NoMemory>
-    requires { HeldRuns (λ runs. AreWide runs numbers.now count) height spans.now starts.now numbers.now }
-    ensures { IfOk result (λ r. (held : HeldRuns (λ runs. AreWide runs numbers.now count) height spans.now starts.now numbers.now) → AreGathered held.runs numbers.now (length held.runs) r.items) }
+) -> usize
+    requires { HeldRuns (λ runs. AreCounted runs numbers.now (length out.old / 7)) height spans.now starts.now numbers.now }
+    ensures { (held : HeldRuns (λ runs. AreCounted runs numbers.now (length out.old / 7)) height spans.now starts.now numbers.now) → AreRowsGathered held.runs numbers.now (length held.runs) out.old result out.new }
 {
-    let mut regions = Vec::with_capacity(alloc, count as usize)?;
+    let mut count = 0;
     for y in 0..height as usize {
         for k in starts[y] as usize..starts[y + 1] as usize {
             let run = Run {
@@ -94,27 +96,34 @@ pub(crate) fn gather_spans(
                 first: spans[k].first,
                 end: spans[k].end,
             };
-            add_run(&mut regions, run, numbers[k])?;
+            count = add_run(out, count, run, numbers[k]);
         }
     }
-    Ok(regions)
+    count
 }
 
-/// What is told of each component of a set, by first places. It may want memory (`NoMemory`).
-pub fn regions_of(
+/// Writes what is told of each component of a set into an array, by first places, where there is room for all of them. The
+/// answer is how many there are. It may want memory (`NoMemory`), and the array is then as it was.
+pub fn write_regions(
     alloc: Global,
     set: &Plane<Bit>,
     neighbours: Neighbours,
-) -> Result<Vec<Region>, NoMemory>
+    out: &mut [u32],
+) -> Result<u32, NoMemory>
     requires narrow { set.now.width < 2 ^ 16 }
     requires few { set.now.height * set.now.width < 2 ^ 32 }
-    ensures { IfOk result (λ r. AreRegionsOf (neighbours_of neighbours) (set_of set.now) r.items) }
+    ensures made { IfOk result (λ count. AreRegionsTold (neighbours_of neighbours) (set_of set.now) count out.old out.new) }
+    ensures kept { IfErr result (λ _. out.new ≡ out.old) }
 {
     let height = set.height();
     let found = spans_of(alloc, set.words(), neighbours)?;
     let spans = found.spans.as_slice();
     let starts = found.starts.as_slice();
     let numbers = found.numbers.as_slice();
-    let regions = gather_spans(alloc, height, spans, starts, numbers, found.count)?;
-    Ok(regions)
+    let count = found.count;
+    let room = out.len() / NUMBERS;
+    if count as usize <= room {
+        gather_rows(out, height, spans, starts, numbers);
+    }
+    Ok(count)
 }

@@ -6,7 +6,7 @@ use Rattle.mw_model.specs.Pictures.{Picture, sample, IsSet}
 use Rattle.mw_model.proofs.ImagePlaces.{sample_bounded}
 use Rattle.mw_pixel.specs.mw_pixel_words.Packed.{bit_of}
 use Rattle.mw_geodesic_runs.specs.declared.runs.Run.{Run}
-use Rattle.mw_geodesic_runs.specs.Runs.{no_run, run_numbered, HasPlace, IsRunOfSet, Precedes, InSomeRun, EndsBefore, tally, left_of, begin_at, begun, run_count, RunsBefore}
+use Rattle.mw_geodesic_runs.specs.Runs.{no_run, run_numbered, HasPlace, IsRunOfSet, Precedes, InSomeRun, EndsBefore, tally, left_of, begin_at, begun, RunsBefore}
 use Rattle.mw_geodesic_runs.specs.Changes.{IsNextChange}
 use Rattle.mw_geodesic_runs.proofs.ChangedPlaces.{stretch}
 use Rattle.mw_geodesic_runs.proofs.Tallies.{tally_none, tally_more, tally_one, next_tally, left_is, left_none, left_after, left_same, tally_same}
@@ -320,16 +320,6 @@ room_left f words x y m n row inside was =
     let whole = tally_more (begin_at (λ u. sample f u y)) (x + 1) f.width (omega arith) in
     omega arith
 
--- there is room for the runs of a row behind those of the rows above
-pub row_fits : (f : Picture) (y : ℕ) (runs : List Run) → y < f.height → RunsBefore f 0 y runs → length runs + begun f y f.width ≤ run_count f
-row_fits f y runs high was =
-    let none : min 0 f.width ≡ 0 = omega arith in
-    let is = ap (begun f y) none in
-    let count = was.count in
-    let next_row = next_tally (λ v. begun f v f.width) y in
-    let rows = tally_more (λ v. begun f v f.width) (y + 1) f.height (omega arith) in
-    omega arith
-
 -- no more runs begin than there are columns
 pub begun_most : (f : Picture) (y x : ℕ) → IsSet f → y < f.height → x ≤ f.width → begun f y x ≤ x
 begun_most f y zero is_set high le = omega arith
@@ -337,14 +327,6 @@ begun_most f y (suc x) is_set high le =
     let rest = begun_most f y x is_set high (omega arith) in
     let top = sample_bounded f is_set.picture x y (omega arith) high in
     let most = is_set.maxval in
-    omega arith
-
--- the runs of all rows
-pub all_runs : (f : Picture) (runs : List Run) → RunsBefore f 0 f.height runs → length runs ≡ run_count f
-all_runs f runs was =
-    let none : min 0 f.width ≡ 0 = omega arith in
-    let is = ap (begun f f.height) none in
-    let count = was.count in
     omega arith
 
 -- a row is done

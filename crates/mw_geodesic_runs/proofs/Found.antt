@@ -12,7 +12,7 @@ use Rattle.mw_geodesic_runs.specs.Runs.{InSomeRun, RunsBefore}
 use Rattle.mw_geodesic_runs.specs.declared.spans.Span.{Span}
 use Rattle.mw_geodesic_runs.specs.Rows.{AreHeldAbove}
 use Rattle.mw_geodesic_runs.specs.Forests.{NumbersClasses}
-use Rattle.mw_geodesic_runs.specs.Touching.{columns_reached, Agree, IsForestOf, AreNumbered}
+use Rattle.mw_geodesic_runs.specs.Touching.{columns_reached, Agree, IsForestOf}
 use Rattle.mw_geodesic_runs.specs.Components.{AreComponents, AreRunSpans}
 use Rattle.mw_geodesic_runs.proofs.Numbered.{numbers_respect, one_colour}
 use Rattle.mw_geodesic_runs.proofs.RowsOfAll.{all_cut}
@@ -44,12 +44,6 @@ held e f runs numbers count x y are place one = are.cut.all x y place.column (in
 
 pub set_is : (p : Raster ℕ) → length p.cells ≡ p.height * p.width → All (λ s. s ≤ 1) p.cells → IsSet (set_of p)
 set_is p size small = record { picture = record { size = size; bounded = small }; kind = refl; maxval = refl }
-
-pub components_by : (n : Neighbours) (f : Picture) (runs runs' : List Run) (numbers numbers' : List ℕ) (count reach : ℕ) → IsSet f → RunsBefore f 0 f.height runs → runs' ≡ runs → numbers' ≡ numbers → reach ≡ columns_reached n → AreNumbered reach runs' numbers count
-    → AreComponents (neighbours_of n) f runs numbers' count
-components_by n f runs runs' numbers numbers' count reach is_set before same same_numbers near told =
-    let told' : AreNumbered (columns_reached n) runs numbers count = subst (λ (t : ℕ). AreNumbered t runs numbers count) near (subst (λ (t : List Run). AreNumbered reach t numbers count) same told) in
-    subst (λ (t : List ℕ). AreComponents (neighbours_of n) f runs t count) (sym same_numbers) (are_components n f runs told'.parent numbers count is_set before told'.forest told'.numbering)
 
 -- the spans of the runs with the numbers of the classes of a forest
 pub are_spans : (n : Neighbours) (f : Picture) (spans : List Span) (starts parent parent' numbers numbers' : List ℕ) (count reach : ℕ) → IsSet f → AreHeldAbove f f.height spans starts → reach ≡ columns_reached n → parent' ≡ parent

@@ -4,7 +4,7 @@ use Rattle.std.proofs.lemmas.Bool.{cases_lt, cases_order}
 use Rattle.mw_geodesic_runs.specs.declared.runs.Run.{Run}
 use Rattle.mw_geodesic_runs.specs.Runs.{run_numbered, Precedes, AreInOrder}
 use Rattle.mw_geodesic_runs.specs.Forests.{IsForest, AllAlone, HasJoinedIf}
-use Rattle.mw_geodesic_runs.specs.Touching.{Touches, EndsFirst, Agree, AreUnited, IsForestOf}
+use Rattle.mw_geodesic_runs.specs.Touching.{Touches, EndsFirst, Agree, AreUnited}
 use Rattle.mw_geodesic_runs.proofs.Classes.{alone_forest, alone_respects}
 
 -- a run that ends first touches none behind the other
@@ -28,17 +28,6 @@ past_second reach a b c low late (inr same) t =
 ends_itself : (a : Run) → EndsFirst a a → ⊥
 ends_itself a (inl above) = omega arith
 ends_itself a (inr same) = omega (arith, same.0)
-
--- a run does not touch itself
-pub touching_apart : (reach : ℕ) (runs : List Run) (i j : ℕ) → i ≤ j → Touches reach (run_numbered runs i) (run_numbered runs j) → i < j
-touching_apart reach runs i j le t = elim (cases_lt i j) [
-  | inl less ↦ less
-  | inr past ↦
-      let same : i ≡ j = omega arith in
-      let row : (run_numbered runs i).row ≡ (run_numbered runs j).row = ap (λ (k : ℕ). (run_numbered runs k).row) same in
-      let below = t.below in
-      absurd (omega arith)
-]
 
 agree_first : (reach : ℕ) (runs : List Run) (i j : ℕ) (f : ℕ → ℕ) → reach ≤ 1 → AreInOrder runs → EndsFirst (run_numbered runs i) (run_numbered runs j) → Agree reach runs i j f
     → (Touches reach (run_numbered runs i) (run_numbered runs j) → f i ≡ f j) → Agree reach runs (i + 1) j f
@@ -128,11 +117,3 @@ uniting_second reach runs i j parent new low within order same_size forest joine
       back = λ f respects. agree_second reach runs i j f low order late (was.back f (joined.back f respects)) (joined.one f respects);
       on = λ f agree. joined.on f (was.on f (agree_less reach runs i j i (j + 1) f (omega arith) (omega arith) agree)) (λ t. agree.one i j (omega arith) within (inr (omega arith)) t);
     }
-
-pub uniting_ended : (reach : ℕ) (runs : List Run) (i j : ℕ) (parent : List ℕ) → length runs ≤ j → AreUnited reach runs i j parent → IsForestOf reach runs parent
-uniting_ended reach runs i j parent end was = record {
-  forest = was.forest;
-  size = was.size;
-  back = λ f respects. agree_less reach runs 0 (length runs) i j f (omega arith) end (was.back f respects);
-  on = λ f agree. was.on f (record { one = λ p q in_p in_q which t. agree.one p q in_p in_q (inr in_q) t });
-}

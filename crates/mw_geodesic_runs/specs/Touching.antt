@@ -4,7 +4,7 @@ use Rattle.mw_geodesic.specs.declared.neighbours.Neighbours.{Neighbours}
 use Rattle.mw_geodesic.specs.declared.neighbours.Neighbours.TheVariants.{Four, Eight}
 use Rattle.mw_geodesic_runs.specs.declared.runs.Run.{Run}
 use Rattle.mw_geodesic_runs.specs.Runs.{run_numbered}
-use Rattle.mw_geodesic_runs.specs.Forests.{IsForest, Respects, NumbersClasses}
+use Rattle.mw_geodesic_runs.specs.Forests.{IsForest, Respects}
 
 -- how many columns further than above and below they reach in the next row
 abbrev pub columns_reached : Neighbours → ℕ
@@ -39,9 +39,3 @@ pub record IsForestOf (reach : ℕ) (runs : List Run) (parent : List ℕ) : Type
   pub size : length parent ≡ length runs
   pub back : (f : ℕ → ℕ) → Respects parent f → Agree reach runs 0 (length runs) f
   pub on : (f : ℕ → ℕ) → Agree reach runs 0 (length runs) f → Respects parent f
-
--- each run has the number of its class, in a forest of the runs
-pub record AreNumbered (reach : ℕ) (runs : List Run) (numbers : List ℕ) (count : ℕ) : Type 0 where
-  pub parent : List ℕ
-  pub forest : IsForestOf reach runs parent
-  pub numbering : NumbersClasses parent (length parent) numbers count

@@ -3,29 +3,25 @@
 //! `mw_geodesic_labels` and `mw_geodesic_kept` make labels, regions and sets of them.
 //!
 //! ```text
-//! let Components { runs, numbers, count } = components_of(alloc, set.words(), Neighbours::Eight)?;
 //! let Spans { spans, starts, numbers, count } = spans_of(alloc, set.words(), Neighbours::Eight)?;
 //! ```
 //!
-//! A set has fewer than 65,536 columns and 2^32 places, as all of a session have. A run takes 8 bytes, or 4 as a span, which
-//! does not tell its row, and its number in the forest 4. The runs are counted before memory is asked for, so that there is
-//! memory for no more. A row has at most one run for two pixels, and one more where its columns are odd: so spans and numbers
-//! take no more than 4 bytes a pixel, runs and numbers 6, and as many bytes more a row of odd width. It is so much on a
-//! checkerboard, and mostly far less. Beside spans two rows of runs are held, and 4 bytes for each row.
+//! A set has fewer than 65,536 columns and 2^32 places, as all of a session have. A run takes 4 bytes as a span, which does not
+//! tell its row, and its number in the forest 4. The runs are counted before memory is asked for, so that there is memory for no
+//! more. A row has at most one run for two pixels, and one more where its columns are odd: so spans and numbers take no more than
+//! 4 bytes a pixel, and as many bytes more a row of odd width. It is so much on a checkerboard, and mostly far less. Beside spans
+//! two rows of runs are held, of 8 bytes each, and 4 bytes for each row.
 #![tactic(auto)]
 
 mod changes;
-mod components;
 mod forest;
 mod neighbours;
 mod numbering;
 mod runs;
 mod scanning;
 mod spans;
-mod touching;
 mod uniting;
 
-pub use components::{Components, components_of};
 pub use mw_geodesic::Neighbours;
 pub use mw_model::NoMemory;
 pub use runs::Run;

@@ -1,6 +1,6 @@
 //! The runs of a set, row by row.
 
-ghost use Rattle.std.specs.Prelude.{◌≡◌, ℕ, ◌+◌, ◌-◌, ◌*◌, ◌<◌, ◌≤◌, ◌^◌, List, ◌++◌, length, vec_len, vec_capacity, IfOk};
+ghost use Rattle.std.specs.Prelude.{◌≡◌, ℕ, ◌+◌, ◌-◌, ◌*◌, ◌<◌, ◌≤◌, ◌^◌, List, ◌++◌, length, vec_capacity};
 ghost use Rattle.std.specs.Int.{bit_at};
 ghost use Rattle.mw_pixel.specs.Images.{set_of};
 ghost use Rattle.mw_geodesic_runs.specs.declared.runs.Run.{Run};
@@ -10,9 +10,7 @@ ghost use Rattle.mw_pixel.specs.mw_pixel_words.Packed.{bit_of};
 
 use crate::changes::{changes_behind, next_change};
 use crate::scanning::next_place;
-use mw_model::NoMemory;
 use mw_pixel::Words;
-use std::alloc::Global;
 
 /// Pixels of a set that stand side by side in a row, as many as do: those from a first column up to an end, which is not
 /// of the run.
@@ -106,17 +104,4 @@ pub(crate) fn count_runs(set: &Words) -> usize
         count += count_starts(set.row(y));
     }
     count
-}
-
-/// The runs of a set, by rows from the top, in each row from the left, with memory for no more.
-pub(crate) fn runs_of(alloc: Global, set: &Words) -> Result<Vec<Run>, NoMemory>
-    requires { set.now.width < 2 ^ 16 }
-    ensures runs { IfOk result (λ r. RunsBefore (set_of set.now) 0 set.now.height r.items) }
-    ensures room { IfOk result (λ r. vec_capacity r ≡ vec_len r) }
-{
-    let mut runs = Vec::with_capacity(alloc, count_runs(set))?;
-    for y in 0..set.height() {
-        cut_row(set, y, &mut runs);
-    }
-    Ok(runs)
 }

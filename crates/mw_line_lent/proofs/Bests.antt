@@ -7,16 +7,16 @@ use Rattle.mw_line.proofs.Over.{over_same, over_shift, over_swapped}
 use Rattle.mw_line_lent.specs.Bests.{IsBest}
 
 -- what is merged lies below both
-below-left : {A : Type 0} (f : A → A → A) → IsExtremum f → (x y : A) → f (f x y) x ≡ f x y
+pub below-left : {A : Type 0} (f : A → A → A) → IsExtremum f → (x y : A) → f (f x y) x ≡ f x y
 below-left f laws x y = ap (λ (t : _). f t x) (laws.commutes x y) ∙ laws.associates y x x ∙ ap (f y) (laws.is_idempotent x) ∙ laws.commutes y x
 
-below-right : {A : Type 0} (f : A → A → A) → IsExtremum f → (x y : A) → f (f x y) y ≡ f x y
+pub below-right : {A : Type 0} (f : A → A → A) → IsExtremum f → (x y : A) → f (f x y) y ≡ f x y
 below-right f laws x y = laws.associates x y y ∙ ap (f x) (laws.is_idempotent y)
 
-below_both : {A : Type 0} (f : A → A → A) → IsExtremum f → (z x y : A) → f z x ≡ z → f z y ≡ z → f z (f x y) ≡ z
+pub below_both : {A : Type 0} (f : A → A → A) → IsExtremum f → (z x y : A) → f z x ≡ z → f z y ≡ z → f z (f x y) ≡ z
 below_both f laws z x y p q = sym (laws.associates z x y) ∙ ap (λ (t : _). f t y) p ∙ q
 
-below-trans : {A : Type 0} (f : A → A → A) → IsExtremum f → (x y z : A) → f x y ≡ x → f y z ≡ y → f x z ≡ x
+pub below-trans : {A : Type 0} (f : A → A → A) → IsExtremum f → (x y z : A) → f x y ≡ x → f y z ≡ y → f x z ≡ x
 below-trans f laws x y z p q = ap (λ (t : _). f t z) (sym p) ∙ laws.associates x y z ∙ ap (f x) q ∙ p
 
 below-antisym : {A : Type 0} (f : A → A → A) → IsExtremum f → (x y : A) → f x y ≡ x → f y x ≡ y → x ≡ y

@@ -4,4 +4,6 @@ mod Columns
 mod Puts
 mod LineCells
 mod Near
+mod Runs
+mod SheetLines
 mod Vectors

@@ -2,3 +2,4 @@ pub mod Bests
 pub mod Parts
 pub mod Boxes
 pub mod Near
+pub mod Sheets

@@ -73,7 +73,7 @@ pub(crate) fn boxes_of(place: Rect, offsets: OffsetBox, tile: Rect) -> Boxes
 }
 
 /// The longest side of boxes that are made here: by longer ones more is merged than by doubling.
-const LONGEST: usize = 256;
+pub(crate) const LONGEST: usize = 256;
 
 /// Whether these boxes are made here.
 pub(crate) fn is_suited<P: Laned>(boxes: Boxes) -> bool

@@ -16,6 +16,15 @@ pub(crate) struct Rows<'a, P: Pixel> {
     pub count: usize,
 }
 
+/// The same rows, with a count that the compiler knows where this is called with a number: it unrolls the loop over them.
+#[inline(always)]
+pub(crate) fn by_number<P: Pixel>(rows: Rows<P>, count: usize) -> Rows<P>
+    requires { rows.count ≡ count }
+    ensures { result ≡ rows.entry }
+{
+    Rows { count, ..rows }
+}
+
 /// The extremum of the neutral sample and all rows, from column `at` on.
 #[inline(always)]
 pub(crate) fn best_of_rows<P: Laned, E: LanedExtremum<P>>(

@@ -4,7 +4,7 @@ ghost use Rattle.std.specs.Prelude.{◌≡◌, ℕ, ◌+◌, ◌-◌, ◌*◌, �
 ghost use Rattle.mw_line_lent.specs.Bests.{IsBest};
 ghost use Rattle.mw_line_lent.specs.Boxes.{IsPutInRows};
 
-use crate::down::{Rows, best_of_rows};
+use crate::down::{Rows, best_of_rows, by_number};
 use crate::extrema::LanedExtremum;
 use crate::lanes::Laned;
 
@@ -50,8 +50,8 @@ fn put_two_at<P: Laned, E: LanedExtremum<P>>(
 }
 
 /// Writes two lines of so many columns.
-#[inline(never)]
-pub(crate) fn put_two<P: Laned, E: LanedExtremum<P>>(
+#[inline(always)]
+fn put_two_over<P: Laned, E: LanedExtremum<P>>(
     rows: Rows<P>,
     neutral: P,
     out: &mut [P],
@@ -71,6 +71,29 @@ pub(crate) fn put_two<P: Laned, E: LanedExtremum<P>>(
         let from = done.min(n - P::WIDTH);
         put_two_at::<P, E>(rows, from, neutral, out, lines);
         done = from + P::WIDTH;
+    }
+}
+
+/// Writes two lines of so many columns. The number is that of boxes of 3 rows.
+#[inline(never)]
+pub(crate) fn put_two<P: Laned, E: LanedExtremum<P>>(
+    rows: Rows<P>,
+    neutral: P,
+    out: &mut [P],
+    lines: Lines,
+    n: usize,
+)
+    requires some { 2 ≤ rows.count }
+    requires wide { P.WIDTH ≤ n }
+    requires inside { rows.from + rows.count * rows.stride + n ≤ length rows.samples.now }
+    requires room { lines.at + lines.wide + n ≤ length out.old }
+    requires apart { n ≤ lines.wide }
+    ensures put { IsPutInRows 2 lines.at n lines.wide out.old out.new }
+    ensures made { (r i : ℕ) (d : P) → r < 2 → i < n → IsBest E.merge (λ j. E.merge neutral (slice_index_or rows.entry.samples.now (rows.entry.from + j * rows.entry.stride + i) d)) r (r + rows.entry.count) (slice_index_or out.new (lines.at + r * lines.wide + i) d) }
+{
+    match rows.count {
+        3 => put_two_over::<P, E>(by_number(rows, 3), neutral, out, lines, n),
+        _ => put_two_over::<P, E>(rows, neutral, out, lines, n),
     }
 }
 
@@ -113,8 +136,8 @@ fn put_four_at<P: Laned, E: LanedExtremum<P>>(
 }
 
 /// Writes four lines of so many columns.
-#[inline(never)]
-pub(crate) fn put_four<P: Laned, E: LanedExtremum<P>>(
+#[inline(always)]
+fn put_four_over<P: Laned, E: LanedExtremum<P>>(
     rows: Rows<P>,
     neutral: P,
     out: &mut [P],
@@ -134,5 +157,30 @@ pub(crate) fn put_four<P: Laned, E: LanedExtremum<P>>(
         let from = done.min(n - P::WIDTH);
         put_four_at::<P, E>(rows, from, neutral, out, lines);
         done = from + P::WIDTH;
+    }
+}
+
+/// Writes four lines of so many columns. The numbers are those of boxes of 5, 7 and 9 rows.
+#[inline(never)]
+pub(crate) fn put_four<P: Laned, E: LanedExtremum<P>>(
+    rows: Rows<P>,
+    neutral: P,
+    out: &mut [P],
+    lines: Lines,
+    n: usize,
+)
+    requires some { 4 ≤ rows.count }
+    requires wide { P.WIDTH ≤ n }
+    requires inside { rows.from + (rows.count + 2) * rows.stride + n ≤ length rows.samples.now }
+    requires room { lines.at + 3 * lines.wide + n ≤ length out.old }
+    requires apart { n ≤ lines.wide }
+    ensures put { IsPutInRows 4 lines.at n lines.wide out.old out.new }
+    ensures made { (r i : ℕ) (d : P) → r < 4 → i < n → IsBest E.merge (λ j. E.merge neutral (slice_index_or rows.entry.samples.now (rows.entry.from + j * rows.entry.stride + i) d)) r (r + rows.entry.count) (slice_index_or out.new (lines.at + r * lines.wide + i) d) }
+{
+    match rows.count {
+        5 => put_four_over::<P, E>(by_number(rows, 5), neutral, out, lines, n),
+        7 => put_four_over::<P, E>(by_number(rows, 7), neutral, out, lines, n),
+        9 => put_four_over::<P, E>(by_number(rows, 9), neutral, out, lines, n),
+        _ => put_four_over::<P, E>(rows, neutral, out, lines, n),
     }
 }

@@ -1,8 +1,8 @@
 //! Erosion's minimum and dilation's maximum under boxes of rows that stand in a caller's array, written into the caller's rows.
 //! First down: the rows that a box has are merged where they stand, some rows of results at once, into a line with neutral
-//! samples beside it. Then across: a line is merged with itself, shifted, by taps for narrow boxes and else by windows of 4
-//! and of 16 places, whose last merge writes the caller's row. So no row is copied, and nothing is written twice that is read
-//! once. Rows above and below the frame are left out, since the neutral sample is merged once.
+//! samples beside it; of tall boxes each row is merged twice, by blocks of rows. Then across: a line is merged with itself,
+//! shifted, by taps for narrow boxes and else by windows of 4, 16 and 64 places, whose last merge writes the caller's row. So no
+//! row is copied. Rows above and below the frame are left out, since the neutral sample is merged once.
 //!
 //! ```text
 //! if boxes_into::<u8, Min>(alloc, &lent, offsets, maxval, tile, &mut out)? { .. }
@@ -21,6 +21,8 @@ mod lanes_16;
 mod lanes_8;
 mod lines;
 mod rows;
+mod sheets;
+mod tall;
 mod tiles;
 
 pub use extrema::LanedExtremum;
@@ -28,4 +30,4 @@ pub use lanes::Laned;
 pub use mw_line::pixel::{Max, Min, copies};
 pub use mw_model::{NoMemory, OffsetBox};
 pub use mw_tile_lent::{Lent, Rect};
-pub use tiles::{boxes_into, boxes_with_room};
+pub use tiles::{boxes_into, boxes_with_room, rows_of_sheet};

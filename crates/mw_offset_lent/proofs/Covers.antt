@@ -2,6 +2,7 @@
 use Rattle.std.proofs.Common.{◌≡◌, ◌⊎◌, ℕ, ◌+◌, ◌<◌, List, [], ◌∷◌, ◌++◌, length, map, take, get_or, ap, sym, subst, arith, ◌∙◌, inl, inr}
 use Rattle.std.specs.List.{Contains}
 use Rattle.std.proofs.lemmas.List.{map-append, take_more}
+use Rattle.mw_offset_lent.specs.Splits.{IsCover}
 use Rattle.std.proofs.lemmas.List.Elements.{Contains-append_left, Contains-push, Contains-push_cases}
 
 pub none_in : {A : Type 0} (x : A) → Contains [] x → ⊥
@@ -51,3 +52,7 @@ map_more f xs i d old new y lt y-is new-is old-is =
     ∙ ap (λ (t : _). map f (take i xs) ++ t ∷ []) y-is
     ∙ sym (map-append f (take i xs) (get_or xs i d ∷ []))
     ∙ ap (map f) (sym (take_more xs i d lt))
+
+-- a cover by the same lists
+pub cover_by : (shared own all s o : List ℕ) (ahead : ℕ) → s ≡ shared → o ≡ own → IsCover shared own all ahead → IsCover s o all ahead
+cover_by shared own all s o ahead s-is o-is cover = subst (λ (t : List ℕ). IsCover t o all ahead) (sym s-is) (subst (λ (t : List ℕ). IsCover shared t all ahead) (sym o-is) cover)

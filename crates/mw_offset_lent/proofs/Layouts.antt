@@ -12,7 +12,7 @@ use Rattle.mw_line_lent.specs.Boxes.{IsPutAt}
 use Rattle.mw_offset_lent.specs.Parts.{IsPartOf}
 use Rattle.mw_offset_lent.proofs.Puts.{put_none, put_part}
 
-cell_inside : {A : Type 0} (w h : ℕ) (cells : List A) (c r : ℕ) (d : A) → length cells ≡ h * w → c < w → r < h → cell_at (raster w h cells) (pos c) (pos r) ≡ Some (get_or cells (r * w + c) d)
+pub cell_inside : {A : Type 0} (w h : ℕ) (cells : List A) (c r : ℕ) (d : A) → length cells ≡ h * w → c < w → r < h → cell_at (raster w h cells) (pos c) (pos r) ≡ Some (get_or cells (r * w + c) d)
 cell_inside w h cells c r d size across down = rw (lt-ltb c w across, lt-ltb r h down) (slice_get-get_or cells (r * w + c) d (omega (arith, size, mul-add-lt r w c h down across)))
 
 -- what was filled before the part, copied, and filled behind it

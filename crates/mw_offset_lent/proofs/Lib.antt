@@ -6,3 +6,6 @@ mod Written
 mod TwoRows
 mod Layouts
 mod Seen
+mod EdgeColumns
+mod Standing
+mod CellsOfEdges

@@ -3,3 +3,4 @@ pub mod Places
 pub mod Splits
 pub mod Offsets
 pub mod Layouts
+pub mod EdgeCells

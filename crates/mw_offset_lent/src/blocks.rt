@@ -59,3 +59,25 @@ pub(crate) fn put_block<P: Laned, E: LanedExtremum<P>>(
     let best = merge_places::<P, E>(cells, places, from, (start, start));
     store_both::<P>(best, out, at);
 }
+
+/// Writes one vector from a place on, in the same way.
+#[inline(always)]
+pub(crate) fn put_vector<P: Laned, E: LanedExtremum<P>>(
+    cells: &[P],
+    places: &[usize],
+    from: usize,
+    neutral: P,
+    out: &mut [P],
+    at: usize,
+)
+    requires inside { AllByRecursion (λ p. p + (from + P.WIDTH) ≤ length cells.now) places.now }
+    requires room { at + P.WIDTH ≤ length out.old }
+    ensures put { IsPutAt at P.WIDTH out.old out.new }
+    ensures made { (i : ℕ) → i < P.WIDTH → slice_index_or out.new (at + i) neutral ≡ merged_at E.merge cells.now neutral (from + i) neutral places.now }
+{
+    let mut best = P::all(neutral);
+    for place in places {
+        best = E::merged(best, P::load(cells, *place + from));
+    }
+    P::store(best, out, at);
+}

@@ -1,5 +1,6 @@
 //! The reference: each operator in the slowest honest way, one pixel after the other. Its contracts are the
-//! definitions, so it is what a test compares a fast body with. Tests and benchmarks alone call it; no part of the program stands on it.
+//! definitions, so it is what a test compares a fast body with. Of the library for C, operators on grains go by it under elements without a
+//! kernel; no part of the program stands on it.
 //!
 //! An image is a `ReferenceImage`, and an element the list of its offsets. What makes an image takes the allocator first:
 //!

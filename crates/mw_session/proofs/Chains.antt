@@ -17,6 +17,7 @@ use Rattle.mw_session_fetch.specs.mw_wire.Runs.{AllAnswered, CameToEnd, DeskRan}
 use Rattle.mw_session.specs.Turns.{TurnsMade, HasServed}
 use Rattle.mw_session.specs.declared.tally.Tally.{Tally}
 use Rattle.mw_session.specs.Answering.{ScriptAnswer}
+use Rattle.mw_session.specs.Budgets.{KeepsCount}
 use Rattle.mw_session.specs.Tallies.{Tallied, AreReplies, Counted, IsCounted, has_refusal, last_line}
 use Rattle.mw_session.specs.Runs.{SaidAll, Finished, SessionRan}
 use Rattle.mw_session.proofs.Turns.{logs_on}
@@ -233,3 +234,35 @@ counted-ran m old new had left x y (Ok e) ran s idle first clear =
       counted m h.state h.turns old new f.text (counts-of f.asked m old new f.text f.made.answered s idle (one-fits old.line first)) first clear,
     )
 counted-ran m old new had left x y (Err f) ran s idle first clear = (script-ran with-tally m old new had left x y (Err f) ran s idle, tt)
+
+-- ---- what the budget has taken, answer by answer
+
+-- the core goes on standing for a state in which no task is running
+abbrev StandsOn : CoreView → CoreView → Type 0
+StandsOn c d = (m : Machine) → StandsFor c m → running_count c ≡ 0 → (n : Machine) × StandsFor d n × (running_count d ≡ 0)
+
+keeps-join : (old mid new : Tally) → StandsOn old.core mid.core → KeepsCount old.core old.budget mid.core mid.budget → KeepsCount mid.core mid.budget new.core new.budget → KeepsCount old.core old.budget new.core new.budget
+keeps-join old mid new on h k = record {
+  bound = k.bound ∙ h.bound;
+  covers = λ m s none was. let n = on m s none in k.covers n.0 n.1 n.2 (h.covers m s none was);
+  within = λ m s none was bounded. let n = on m s none in k.within n.0 n.1 n.2 (h.covers m s none was) (h.within m s none was bounded);
+}
+
+keeps-on : (rs : List Asked) (old new : Tally) (text : List ℕ) → AreAnswered Tallied old rs text new → KeepsCount old.core old.budget new.core new.budget
+keeps-on [] old new text (none, same) =
+    let P : Tally → Type 0 = λ t. KeepsCount old.core old.budget t.core t.budget in
+    subst P (sym same) (record { bound = refl; covers = λ m s idle was. was; within = λ m s idle was bounded. bounded })
+keeps-on (r ∷ rs) old new text (mid, front, rest, one, more, texts) =
+    keeps-join old mid new (λ m s none. let a = one.answer m s none in (a.state, a.stands, a.idle)) one.keeps (keeps-on rs mid new rest more)
+
+pub keeps-ran : (old new : Tally) (had left x y : Option (List ℕ)) (result : Result End SessionFault) → DeskRan Tallied old new had left x y result → KeepsCount old.core old.budget new.core new.budget
+keeps-ran old new had left x y (Ok e) ran = let f = ran.ran in keeps-on f.asked old new f.text f.made.answered
+keeps-ran old new had left x y (Err fault.Read) ran = let f = ran.ran.1 in keeps-on f.asked old new f.text f.made.answered
+keeps-ran old new had left x y (Err fault.Write) ran = elim ran.ran [
+  | inl (inl f) ↦
+      keeps-join old f.mid new (λ m s none. let t = turns-of with-tally f.asked m old f.mid f.text f.made.answered s none in (t.state, t.stands, t.idle))
+      (keeps-on f.asked old f.mid f.text f.made.answered) f.answer.keeps
+  | inl (inr f) ↦ keeps-on f.asked old new f.text f.made.answered
+  | inr (inl (rest, f)) ↦ keeps-on f.asked old new f.text f.made.answered
+  | inr (inr (e, f)) ↦ keeps-on f.asked old new f.text f.made.answered
+]

@@ -4,3 +4,4 @@ pub mod Stops
 mod Turns
 mod Chains
 mod Answering
+mod Covering

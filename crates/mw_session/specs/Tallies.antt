@@ -10,17 +10,19 @@ use Rattle.mw_session_fetch.specs.Errors.{Marks, is_error_line}
 use Rattle.mw_session_fetch.specs.mw_wire.declared.fault.SessionFault.{SessionFault}
 use Rattle.mw_session.specs.declared.tally.Tally.{Tally}
 use Rattle.mw_session.specs.Answering.{ScriptAnswer}
+use Rattle.mw_session.specs.Budgets.{KeepsCount}
 use Rattle.mw_session.specs.Runs.{SessionRan}
 
 -- the greatest line number that is told
 abbrev pub last_line : ℕ
 last_line = 18446744073709551615
 
--- One request was answered by this text, the mark tells whether that is a refusal's, and its line was counted.
+-- One request was answered by this text, the mark tells whether that is a refusal's, its line was counted, and the budget has taken what the core is counted as.
 pub record Tallied (old : Tally) (r : Asked) (text : List ℕ) (new : Tally) : Type 0 where
   pub answer : ScriptAnswer old.core r text new.core
   pub marks : Marks old.refused text new.refused
   pub counted : new.line ≡ min (old.line + 1) last_line
+  pub keeps : KeepsCount old.core old.budget new.core new.budget
 
 -- these turns, one after another, go from one state to the other, and these are their replies
 abbrev pub AreReplies : Machine → List Turn → List (List ℕ) → Machine → Type 0

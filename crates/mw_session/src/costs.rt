@@ -1,7 +1,7 @@
 //! At most how many bytes the reading of a payload takes, reckoned before it is read.
 
 use mw_core_waves::values::Image;
-use mw_model::Kind;
+use mw_model::{Code, Kind};
 
 /// An entry in the columns of the core, and what is small beside it.
 const ENTRY: u64 = 4096;
@@ -57,9 +57,12 @@ pub(crate) fn of_load(payload: &[u8], places: usize) -> (u64, u64) {
     }
 }
 
-/// What the places of a payload of so many bytes take beyond the image that was read of it. Samples of one byte of a raw file stay in
-/// them, where no more stands before the samples than there are of them.
-pub(crate) fn beside_image(image: &Image, is_raw: bool, bytes: usize) -> u64 {
+/// What the places of a payload of so many bytes take beyond the image that was read of it, if one was. Samples of one byte of a raw file
+/// stay in them, where no more stands before the samples than there are of them.
+pub(crate) fn beside_image(image: &Result<Image, Code>, is_raw: bool, bytes: usize) -> u64 {
+    let Ok(image) = image else {
+        return 0;
+    };
     let plane = u64::from(image.width()).saturating_mul(u64::from(image.height()));
     let is_byte = image.kind() == Kind::Grey && image.maxval() <= 255;
     if is_raw && is_byte && bytes as u64 <= plane.saturating_mul(2) {

@@ -15,7 +15,7 @@ mod script;
 mod tally;
 mod within;
 
-pub use laws::{finished_is_script, stopped_is_broken};
+pub use laws::{covered_is_within, finished_is_script, stopped_is_broken};
 pub use mw_core_waves::{Core, Crew, Pick};
 pub use mw_model::End;
 pub use script::{run_counted, run_script};

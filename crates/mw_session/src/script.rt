@@ -5,6 +5,7 @@ ghost use Rattle.mw_model.specs.Machine.{Machine};
 ghost use Rattle.mw_model.specs.Stands.{StandsFor, running_count};
 ghost use Rattle.mw_session_fetch.specs.mw_wire.Failures.{IsUnread, TellsFailures};
 ghost use Rattle.mw_session.specs.Runs.{SessionRan};
+ghost use Rattle.mw_session.specs.Budgets.{KeepsCount};
 ghost use Rattle.mw_session.specs.Tallies.{IsCounted};
 
 use crate::answer::{ScriptHandler, Teller};
@@ -36,11 +37,8 @@ pub fn run_script<R: Read, W: Write, P: Pick, T: Threads + Sync>(
         → SessionRan m core.old core.new (R.remaining source.old.inner) (R.remaining source.new.inner) (W.contents sink.old.inner) (W.contents sink.new.inner) result }
     ensures failures { TellsFailures source.new.failed source.new.reads sink.new.failed result }
 {
-    let budget = Budget::new(None);
-    let means = Means {
-        crew,
-        budget: &budget,
-    };
+    let budget = Budget::unbounded();
+    let means = Means { crew, budget };
     let mut clerk = ScriptHandler { means, pick };
     run_session(crew.alloc, source, sink, &mut clerk, core)
 }
@@ -63,13 +61,12 @@ pub fn run_counted<R: Read, W: Write, P: Pick, T: Threads + Sync>(
     // What was written is the script of the bytes that were read, or what a fault left of it, and the core stands for the state after it. Behind an end the tally counts what was answered.
     ensures ran { (m : Machine) → StandsFor tally.old.core m
         → (s : SessionRan m tally.old.core tally.new.core (R.remaining source.old.inner) (R.remaining source.new.inner) (W.contents sink.old.inner) (W.contents sink.new.inner) result) × IsCounted result s tally.new }
+    // What the budget has taken goes on being all that the core is counted as, and goes on being within the bound, but for the items of the log.
+    ensures keeps { KeepsCount tally.old.core tally.old.budget tally.new.core tally.new.budget }
     ensures failures { TellsFailures source.new.failed source.new.reads sink.new.failed result }
 {
-    let budget = Budget::new(tally.memory);
-    let means = Means {
-        crew,
-        budget: &budget,
-    };
+    let budget = tally.budget;
+    let means = Means { crew, budget };
     let mut teller = Teller { means, pick };
     run_session(crew.alloc, source, sink, &mut teller, tally)
 }

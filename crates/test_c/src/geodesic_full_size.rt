@@ -5,9 +5,9 @@ use mw_geodesic_areas::area_opening;
 use mw_geodesic_distances::{Metric, distances_of};
 use mw_geodesic_grey::{border_cleared, h_maxima, holes_filled, regional_minima};
 use mw_geodesic_kept::{
-    border_cleared_of_set, holes_filled_of_set, large_components_of_set, reconstruction_of_set,
+    border_cleared_of_set, holes_filled_of_set, reconstruction_of_set, write_large_components,
 };
-use mw_geodesic_labels::{Neighbours, Region, labels_of, regions_of};
+use mw_geodesic_labels::{NUMBERS, Neighbours, labels_of, write_regions};
 use mw_geodesic_levels::reconstruction;
 use mw_netpbm::read;
 use mw_pixel::{Bit, Image, Pixel, Plane, View};
@@ -41,14 +41,24 @@ fn count_of(rt: &impl Abort, alloc: Global, set: &Image, neighbours: Neighbours)
     }
 }
 
-/// What is told of its components.
-fn told(rt: &impl Abort, alloc: Global, set: &Image, neighbours: Neighbours) -> Vec<Region> {
+/// What is told of its components, which are so many: seven numbers of each.
+fn told(
+    rt: &impl Abort,
+    alloc: Global,
+    set: &Image,
+    neighbours: Neighbours,
+    count: u32,
+) -> Vec<u32> {
     match set.view() {
         View::Bits(plane) => {
             assert!(rt; plane.width() == SIDE && plane.height() == SIDE);
-            regions_of(alloc, plane, neighbours)
+            let size = NUMBERS * count as usize;
+            let mut rows = vec![in alloc; 9u32; size].ok().expect(rt, "memory");
+            let found = write_regions(alloc, plane, neighbours, &mut rows)
                 .ok()
-                .expect(rt, "memory")
+                .expect(rt, "memory");
+            assert!(rt; found == count);
+            rows
         }
         _ => panic!(rt; "a set"),
     }
@@ -62,18 +72,11 @@ fn a_board_of_squares(rt: HostRuntime) {
         SIDE * SIDE / 2
     );
     assert_eq!(&rt; count_of(&rt, rt.alloc(), &board, Neighbours::Eight), 1);
-    let regions = told(&rt, rt.alloc(), &board, Neighbours::Four);
-    let last = Region {
-        x: 4094,
-        y: 4095,
-        area: 1,
-        left: 4094,
-        top: 4095,
-        right: 4094,
-        bottom: 4095,
-    };
-    assert_eq!(&rt; regions.len(), 8_388_608);
-    assert_eq!(&rt; regions.last(), Some(&last));
+    let rows = told(&rt, rt.alloc(), &board, Neighbours::Four, 8_388_608);
+    let last = [4094, 4095, 1, 4094, 4095, 4094, 4095];
+    let rows = rows.as_slice();
+    assert!(&rt; rows.len() == 58_720_256);
+    assert_eq!(&rt; &rows[58_720_249..], last.as_slice());
 }
 
 /// The pixels of a set.
@@ -87,6 +90,15 @@ fn pixels_of<'a>(rt: &impl Abort, image: &'a Image) -> &'a Plane<Bit> {
 /// Whether the set has the pixel in column x of row y.
 fn has(set: &Plane<Bit>, x: u32, y: u32) -> bool {
     x < set.width() && y < set.height() && set.at(x, y).value() == 1
+}
+
+/// Whether no component of the set has two pixels or more, by the bytes that are written of those that have.
+fn has_none_large(rt: &impl Abort, alloc: Global, set: Plane<Bit>, out: &mut [u8]) -> bool {
+    assert!(rt; set.width() == SIDE && set.height() == SIDE);
+    assert!(rt; out.len() == set.height() as usize * set.width() as usize);
+    let written = write_large_components(alloc, set, Neighbours::Four, 2, out);
+    assert!(rt; written.is_ok());
+    out.iter().all(|pixel| *pixel == 0)
 }
 
 /// Of 8,388,608 components, those with a marker, those within, the holes between them, and those of two pixels.
@@ -107,9 +119,10 @@ fn whole_components_of_a_board(rt: HostRuntime) {
     let filled = holes_filled_of_set(rt.alloc(), board, four);
     let filled = filled.ok().expect(&rt, "memory");
     assert!(&rt; has(&filled, 1, 1) && has(&filled, 4094, 4094) && !has(&filled, 0, 0));
-    let large = large_components_of_set(rt.alloc(), board, four, 2);
-    let large = large.ok().expect(&rt, "memory");
-    assert!(&rt; !has(&large, 1, 0) && !has(&large, 4094, 4095));
+    let size = SIDE as usize * SIDE as usize;
+    let alloc = rt.alloc();
+    let mut out = vec![in alloc; 9u8; size].ok().expect(&rt, "memory");
+    assert!(&rt; has_none_large(&rt, alloc, rebuilt, &mut out));
 }
 
 #[test]
@@ -128,28 +141,22 @@ fn lines(rt: HostRuntime) {
 
 #[test]
 fn all_of_the_frame(rt: HostRuntime) {
-    let regions = told(
+    let rows = told(
         &rt,
         rt.alloc(),
         &striped(&rt, rt.alloc(), 0xff, 0xff),
         Neighbours::Four,
+        1,
     );
-    let whole = Region {
-        x: 0,
-        y: 0,
-        area: SIDE * SIDE,
-        left: 0,
-        top: 0,
-        right: 4095,
-        bottom: 4095,
-    };
-    assert_eq!(&rt; regions.as_slice(), [whole].as_slice());
+    let whole = [0, 0, SIDE * SIDE, 0, 0, 4095, 4095];
+    assert_eq!(&rt; rows.as_slice(), whole.as_slice());
     assert!(&rt;
         told(
             &rt,
             rt.alloc(),
             &striped(&rt, rt.alloc(), 0, 0),
-            Neighbours::Four
+            Neighbours::Four,
+            0
         )
         .is_empty()
     );

@@ -4,7 +4,7 @@ use crate::geodesic_given::{WAYS, is_made, made};
 use crate::geodesic_labels::pixels_of;
 use crate::images::{image, noise};
 use mw_geodesic_kept::{
-    border_cleared_of_set, holes_filled_of_set, large_components_of_set, reconstruction_of_set,
+    border_cleared_of_set, holes_filled_of_set, reconstruction_of_set, write_large_components,
 };
 use mw_geodesic_labels::Neighbours;
 use mw_model::Kind;
@@ -34,7 +34,10 @@ fn are_kept(rt: &impl Abort, alloc: Global, set: &ReferenceImage, neighbours: Ne
     assert!(rt; plane.width() < 65536 && count < 4_294_967_296);
     is_made(rt, border_cleared_of_set(alloc, &plane, neighbours));
     is_made(rt, holes_filled_of_set(alloc, &plane, neighbours));
-    is_made(rt, large_components_of_set(alloc, &plane, neighbours, 3));
+    let size = plane.height() as usize * plane.width() as usize;
+    let mut out = vec![in alloc; 9u8; size].ok().expect(rt, "memory");
+    let large = write_large_components(alloc, plane, neighbours, 3, &mut out);
+    assert!(rt; large.is_ok() && out.iter().all(|pixel| *pixel <= 1));
 }
 
 /// Stops where memory is wanting to the reconstruction from every fifth pixel.

@@ -3,7 +3,7 @@
 
 use crate::geodesic_given::{WAYS, made};
 use crate::images::{image, noise, plane_of};
-use mw_geodesic_labels::{Neighbours, labels_of, regions_of};
+use mw_geodesic_labels::{NUMBERS, Neighbours, labels_of, write_regions};
 use mw_model::Kind;
 use mw_pixel::{Bit, Plane};
 use mw_reference::ReferenceImage;
@@ -17,7 +17,7 @@ pub(crate) fn pixels_of(rt: &impl Abort, alloc: Global, set: &ReferenceImage) ->
     }
 }
 
-/// Stops where there are no labels, or another number of regions.
+/// Stops where there are no labels, another number of regions, or rows behind them that are written.
 fn is_told(rt: &impl Abort, alloc: Global, set: &ReferenceImage, neighbours: Neighbours) {
     let plane = pixels_of(rt, alloc, set);
     let count = u64::from(plane.height()) * u64::from(plane.width());
@@ -25,10 +25,12 @@ fn is_told(rt: &impl Abort, alloc: Global, set: &ReferenceImage, neighbours: Nei
     let found = labels_of(alloc, &plane, neighbours)
         .ok()
         .expect(rt, "memory");
-    let regions = regions_of(alloc, &plane, neighbours)
+    let size = NUMBERS * found.count as usize + 1;
+    let mut rows = vec![in alloc; 9u32; size].ok().expect(rt, "memory");
+    let told = write_regions(alloc, &plane, neighbours, &mut rows)
         .ok()
         .expect(rt, "memory");
-    assert_eq!(rt; regions.len(), found.count as usize);
+    assert!(rt; told == found.count && rows.last() == Some(&9));
 }
 
 fn is_told_in_each_way(rt: &impl Abort, alloc: Global, set: &ReferenceImage) {

@@ -6,9 +6,9 @@ use mw_geodesic_areas::area_opening;
 use mw_geodesic_distances::{Metric, distances_of};
 use mw_geodesic_grey::{h_minima, regional_maxima};
 use mw_geodesic_kept::{
-    border_cleared_of_set, holes_filled_of_set, large_components_of_set, reconstruction_of_set,
+    border_cleared_of_set, holes_filled_of_set, reconstruction_of_set, write_large_components,
 };
-use mw_geodesic_labels::{Labelled, Neighbours, NoMemory, Region, labels_of, regions_of};
+use mw_geodesic_labels::{Labelled, Neighbours, NoMemory, labels_of, write_regions};
 use mw_geodesic_levels::reconstruction;
 use mw_pixel::{Bit, Plane};
 use std::alloc::Global;
@@ -47,17 +47,13 @@ fn labels_once_more(rt: HostRuntime) {
 fn regions_once_more(rt: HostRuntime) {
     let plane = plane(&rt, rt.alloc());
     assert!(&rt; plane.width() == 70 && plane.height() == 3);
-    let found: Vec<Region> = once_more!(&rt, regions_of(rt.alloc(), &plane, Neighbours::Four));
-    let whole = Region {
-        x: 0,
-        y: 0,
-        area: 210,
-        left: 0,
-        top: 0,
-        right: 69,
-        bottom: 2,
-    };
-    assert_eq!(&rt; found.as_slice(), [whole].as_slice());
+    let mut rows = [9u32; 8];
+    let found = once_more!(
+        &rt,
+        write_regions(rt.alloc(), &plane, Neighbours::Four, &mut rows)
+    );
+    assert!(&rt; found == 1);
+    assert_eq!(&rt; rows.as_slice(), [0, 0, 210, 0, 0, 69, 2, 9].as_slice());
 }
 
 /// Stops where the set isn't that of three rows of 70 pixels, all of them in it or none.
@@ -101,15 +97,18 @@ fn filled_once_more(rt: HostRuntime) {
     is_filled(&rt, &filled, true);
 }
 
+/// The components of 211 pixels and more of three rows of 70.
+fn large(rt: &impl Abort, alloc: Global, out: &mut [u8; 210]) -> Result<(), NoMemory> {
+    let plane = plane(rt, alloc);
+    assert!(rt; plane.width() == 70 && plane.height() == 3);
+    write_large_components(alloc, plane, Neighbours::Four, 211, out)
+}
+
 #[test]
 fn large_once_more(rt: HostRuntime) {
-    let plane = plane(&rt, rt.alloc());
-    assert!(&rt; plane.width() == 70 && plane.height() == 3);
-    let large = once_more!(
-        &rt,
-        large_components_of_set(rt.alloc(), &plane, Neighbours::Four, 211)
-    );
-    is_filled(&rt, &large, false);
+    let mut out = [9u8; 210];
+    once_more!(&rt, large(&rt, rt.alloc(), &mut out));
+    assert!(&rt; out.iter().all(|pixel| *pixel == 0));
 }
 
 /// Three rows of 70 samples of this level.

@@ -1,9 +1,9 @@
-use Rattle.std.proofs.Common.{◌≡◌, ◌∙◌, None, arith, length, of_z, rules, subst, sym, to_z, w32, ℤ}
+use Rattle.std.proofs.Common.{◌≡◌, ◌∙◌, None, inl, inr, length, of_z, refl, rules, subst, sym, to_z, w32, ℤ}
 use Rattle.mw_c_arrays.specs.Arrays.{element_in_bytes, set_in_bytes}
 use Rattle.mw_c_arrays.specs.Faults.{element_fault, pixels_fault}
 use Rattle.mw_c_calls.specs.Calls.{call_fault, room_case}
 use Rattle.mw_c_geodesic.specs.Regions.{IsRegionsAnswer}
-use Rattle.mw_c_geodesic.proofs.RegionRows.{labels_beside, labels_kept, regions_answered, regions_counted, regions_kept, regions_uncounted, regions_zero, told_beside}
+use Rattle.mw_c_geodesic.proofs.RegionRows.{labels_beside, labels_kept, regions_answered, regions_counted, regions_kept, regions_uncounted, regions_zero, rows_kept, told_beside}
 use Rattle.mw_c_geodesic.proofs.component_calls.components_set.Goals as goal
 
 pub returns-clause-labels : goal.returns-clause-labels
@@ -11,7 +11,7 @@ returns-clause-labels c zero =
     let same : to_z w32 (of_z w32 c.answer_regions.result) ≡ c.answer_regions.result = search rules in
     let e = element_in_bytes c.args.element_width c.args.element_height c.args.element_x c.args.element_y c.args.element.now in
     let f = set_in_bytes c.args.width c.args.height c.args.pixels.now in
-    labels_beside (λ r. r.items) c.measured.result e f _ c.args.out.now c.measured.new.out c.args.regions.now c.answer_regions.new.out c.args.components.now c.answer_regions.new.components c.answer_regions.result (omega arith)
+    labels_beside c.measured.result e f c.args.regions.now c.measured.new.rows c.args.out.now c.measured.new.out (length c.args.regions.now) c.args.components.now c.answer_regions.new.components c.answer_regions.result refl
     c.measured.ensures.made c.answer_regions.ensures.short c.answer_regions.ensures.counted c.answer_regions.ensures.refused (sym same ∙ zero)
 
 pub returns-clause-regions : goal.returns-clause-regions
@@ -19,25 +19,37 @@ returns-clause-regions c zero =
     let same : to_z w32 (of_z w32 c.answer_regions.result) ≡ c.answer_regions.result = search rules in
     let e = element_in_bytes c.args.element_width c.args.element_height c.args.element_x c.args.element_y c.args.element.now in
     let f = set_in_bytes c.args.width c.args.height c.args.pixels.now in
-    regions_zero (λ r. r.items) c.measured.result e f c.args.regions.now c.answer_regions.new.out c.args.components.now c.answer_regions.new.components c.answer_regions.result
-    (told_beside (λ r. r.items) c.measured.result e f _ c.args.out.now c.measured.new.out c.measured.ensures.made) c.answer_regions.ensures.written c.answer_regions.ensures.short c.answer_regions.ensures.counted c.answer_regions.ensures.refused (sym same ∙ zero)
+    regions_zero c.measured.result e f c.args.regions.now c.measured.new.rows (length c.args.regions.now) c.args.components.now c.answer_regions.new.components c.answer_regions.result refl
+    (told_beside c.measured.result e f c.args.regions.now c.measured.new.rows c.args.out.now c.measured.new.out c.measured.ensures.made) c.answer_regions.ensures.short c.answer_regions.ensures.counted c.answer_regions.ensures.refused (sym same ∙ zero)
 
 pub returns-clause-counted : goal.returns-clause-counted
 returns-clause-counted c none is =
     let same : to_z w32 (of_z w32 c.answer_regions.result) ≡ c.answer_regions.result = search rules in
     let e = element_in_bytes c.args.element_width c.args.element_height c.args.element_x c.args.element_y c.args.element.now in
     let f = set_in_bytes c.args.width c.args.height c.args.pixels.now in
-    regions_counted (λ r. r.items) c.measured.result e f _ c.args.regions.now c.answer_regions.new.out c.args.components.now c.answer_regions.new.components c.answer_regions.result
-    (told_beside (λ r. r.items) c.measured.result e f _ c.args.out.now c.measured.new.out c.measured.ensures.made) c.answer_regions.ensures.counted c.answer_regions.ensures.refused c.measured.ensures.told none (sym same ∙ is)
+    regions_counted c.measured.result e f _ c.args.regions.now c.measured.new.rows c.args.components.now c.answer_regions.new.components c.answer_regions.result
+    (told_beside c.measured.result e f c.args.regions.now c.measured.new.rows c.args.out.now c.measured.new.out c.measured.ensures.made) c.answer_regions.ensures.counted c.answer_regions.ensures.refused c.measured.ensures.told none (sym same ∙ is)
 
 pub returns-clause-kept : goal.returns-clause-kept
 returns-clause-kept c not_zero =
     let same : to_z w32 (of_z w32 c.answer_regions.result) ≡ c.answer_regions.result = search rules in
     let e = element_in_bytes c.args.element_width c.args.element_height c.args.element_x c.args.element_y c.args.element.now in
-    let f = set_in_bytes c.args.width c.args.height c.args.pixels.now in (
-      labels_kept (λ r. r.items) c.measured.result e f _ c.args.out.now c.measured.new.out c.args.regions.now c.answer_regions.new.out c.answer_regions.result (omega arith) c.measured.ensures.made c.answer_regions.ensures.written c.measured.ensures.kept (λ zero. not_zero (same ∙ zero)),
-      regions_kept (λ r. r.items) c.measured.result c.args.regions.now c.answer_regions.new.out c.args.components.now c.answer_regions.new.components c.answer_regions.result c.answer_regions.ensures.written c.answer_regions.ensures.short c.answer_regions.ensures.refused (λ zero. not_zero (same ∙ zero)),
+    let f = set_in_bytes c.args.width c.args.height c.args.pixels.now in
+    let made = told_beside c.measured.result e f c.args.regions.now c.measured.new.rows c.args.out.now c.measured.new.out c.measured.ensures.made in
+    let kept = rows_kept c.measured.result c.args.regions.now c.measured.new.rows c.args.out.now c.measured.new.out c.measured.ensures.kept in (
+      labels_kept c.measured.result e f c.args.regions.now c.measured.new.rows c.args.out.now c.measured.new.out (length c.args.regions.now) c.answer_regions.result refl c.measured.ensures.made c.answer_regions.ensures.written c.measured.ensures.kept (λ zero. not_zero (same ∙ zero)),
+      regions_kept c.measured.result e f c.args.regions.now c.measured.new.rows (length c.args.regions.now) c.answer_regions.result refl made c.answer_regions.ensures.written kept (λ zero. not_zero (same ∙ zero)),
     )
+
+pub returns-clause-uncounted : goal.returns-clause-uncounted
+returns-clause-uncounted c not_zero other =
+    let same : to_z w32 (of_z w32 c.answer_regions.result) ≡ c.answer_regions.result = search rules in
+    let e = element_in_bytes c.args.element_width c.args.element_height c.args.element_x c.args.element_y c.args.element.now in
+    regions_uncounted c.measured.result e _ (length c.args.regions.now) c.args.components.now c.answer_regions.new.components c.answer_regions.result
+    c.answer_regions.ensures.written c.answer_regions.ensures.short c.answer_regions.ensures.refused c.measured.ensures.told (λ zero. not_zero (same ∙ zero)) (elim other [
+      | inl wrong ↦ inl wrong
+      | inr long ↦ inr (λ is. long (same ∙ is))
+    ])
 
 pub returns-clause-first : goal.returns-clause-first
 returns-clause-first c =
@@ -45,5 +57,5 @@ returns-clause-first c =
     let e = element_in_bytes c.args.element_width c.args.element_height c.args.element_x c.args.element_y c.args.element.now in
     let first = call_fault None (pixels_fault c.args.width c.args.height c.args.pixels.now) (room_case (length c.args.out.now) (length c.args.pixels.now)) (element_fault c.args.element_width c.args.element_height c.args.element_x c.args.element_y c.args.element.now) in
     subst (λ (n : ℤ). IsRegionsAnswer e first (length c.args.regions.now) c.answer_regions.new.components n) (sym same)
-    (regions_answered (λ r. r.items) c.measured.result e first c.args.regions.now c.answer_regions.new.out c.args.components.now c.answer_regions.new.components c.answer_regions.result
+    (regions_answered c.measured.result e first (length c.args.regions.now) c.args.components.now c.answer_regions.new.components c.answer_regions.result
     c.answer_regions.ensures.written c.answer_regions.ensures.short c.answer_regions.ensures.counted c.answer_regions.ensures.refused c.measured.ensures.told)

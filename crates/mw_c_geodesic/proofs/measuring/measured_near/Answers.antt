@@ -22,4 +22,4 @@ label_and_measure-requires-clause-room c = room_in c.args.f c.in_ok-set.set (len
 
 pub returns-clause-made : goal.returns-clause-made
 returns-clause-made c =
-    subst (λ (t : Raster ℕ). IfOk c.label_and_measure.result (λ r. AreRegionsWithLabels (neighbours_of c.args.neighbours) (set_of t) c.args.most c.args.out.now c.label_and_measure.new.out r.items)) c.in_ok-set.ensures c.label_and_measure.ensures.made
+    subst (λ (t : Raster ℕ). IfOk c.label_and_measure.result (λ n. AreRegionsWithLabels (neighbours_of c.args.neighbours) (set_of t) n c.args.rows.now c.label_and_measure.new.rows c.args.out.now c.label_and_measure.new.out)) c.in_ok-set.ensures c.label_and_measure.ensures.made

@@ -1,5 +1,5 @@
 use Rattle.std.proofs.Common.{◌≡◌, ◌*◌, ◌++◌, take, drop}
-use Rattle.mw_c_geodesic.specs.Regions.{region_rows}
+use Rattle.mw_geodesic_labels.specs.Regions.{region_rows}
 use Rattle.mw_c_geodesic.proofs.region_rows.put_rows.Given as goal
 
 abbrev pub invariant-loop-k : goal.invariant-loop-k

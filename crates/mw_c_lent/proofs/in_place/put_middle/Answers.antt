@@ -18,7 +18,7 @@ new-lent-requires g c =
     let f = picture_in c.args.middle.f in
     record {
       within = c.whole_frame.ensures.within;
-      size = whole_count g.P.Pixel.level f c.width-width.result c.height-height.result c.whole_frame.result c.in-Some.samples.now (source_image c.args.middle.f c.requires.sound).picture.size c.width-width.ensures c.height-height.ensures c.whole_frame.ensures.value c.in-Some.ensures;
+      size = whole_count g.P.Pixel.level f c.width-width.result c.height-height.result c.whole_frame.result c.in-Some.samples.now (source_image c.args.middle.f c.requires.sound).picture.size c.width-width.ensures c.height-height.ensures c.whole_frame.ensures.value c.in-Some.ensures.samples;
     }
 
 pub put_tile-requires : goal.put_tile-requires
@@ -38,7 +38,7 @@ returns-clause-made g c =
     let image = source_image m.f c.requires.sound in
     let tile : Rect = record { x = 0; y = m.from; width = c.width-width.result; height = m.to - m.from } in
     let strip : IsStrip tile f = record { left = refl; wide = c.width-width.ensures; some = omega (arith, c.requires.rows.some); low = omega (arith, c.requires.rows.some, c.requires.rows.within) } in
-    let whole : IsWholeView level w f = whole_is level w f c.width-width.result c.height-height.result c.whole_frame.result c.in-Some.samples.now c.width-width.ensures c.height-height.ensures c.whole_frame.ensures.value c.new-lent.ensures c.in-Some.ensures image.picture.size in
+    let whole : IsWholeView level w f = whole_is level w f c.width-width.result c.height-height.result c.whole_frame.result c.in-Some.samples.now c.width-width.ensures c.height-height.ensures c.whole_frame.ensures.value c.new-lent.ensures c.in-Some.ensures.samples image.picture.size in
     IfOk-weaker c.put_tile.result (λ done. done ≡ true → (h : Picture) → IsWholeView level w h → IsStrip tile h → h.maxval ≡ c.maxval.result → map level out ≡ cells_in tile (sample (rule_picture m.rule h)))
     (λ done. done ≡ true → map level out ≡ rows_from m.from count made)
     (λ done is yes. is yes f whole strip (sym c.maxval.ensures)

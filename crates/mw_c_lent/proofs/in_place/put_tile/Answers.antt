@@ -4,7 +4,7 @@ use Rattle.std.proofs.lemmas.Result.{IfOk-weaker}
 use Rattle.mw_element.specs.declared.element.Element.{Element}
 use Rattle.mw_model.specs.Pictures.{Picture, sample}
 use Rattle.mw_model.specs.Plans.{plane_of}
-use Rattle.mw_model.specs.PlanSteps.{Dilate, Erode}
+use Rattle.mw_model.specs.PlanSteps.{Dilate, DilateBox, Erode, ErodeBox}
 use Rattle.mw_model.specs.Rasters.{raster}
 use Rattle.mw_model.specs.Tasks.{cells_in}
 use Rattle.mw_model.specs.Windows.{seen_at}
@@ -38,25 +38,47 @@ returns-in-Least-clause-made g c =
     let level = g.P.Pixel.level in
     let w = c.args.lent.now in
     let r = c.args.tile in
-    let out = c.put_least.new.out in
-    IfOk-weaker c.put_least.result (λ done. done ≡ true → (f : Picture) → IsWholeView level w f → IsStrip r f → f.maxval ≡ c.args.maxval → map level out ≡ cells_in r (sample (plane_of (Erode c.deref-in-Least.result.now.offsets) (f ∷ []) f.width f.height)))
+    let out = c.put_least_under.new.out in
+    IfOk-weaker c.put_least_under.result (λ done. done ≡ true → (f : Picture) → IsWholeView level w f → IsStrip r f → f.maxval ≡ c.args.maxval → map level out ≡ cells_in r (sample (plane_of (Erode c.deref-in-Least.result.now.offsets) (f ∷ []) f.width f.height)))
     (λ done. done ≡ true → (f : Picture) → IsWholeView level w f → IsStrip r f → f.maxval ≡ c.args.maxval → map level out ≡ cells_in r (sample (rule_picture c.args.rule f)))
     (λ done made is f whole strip top.
     made is f whole strip top
     ∙ ap (λ (x : Element). cells_in r (sample (plane_of (Erode x.offsets) (f ∷ []) f.width f.height))) c.deref-in-Least.ensures
     ∙ ap (λ (x : Rule). cells_in r (sample (rule_picture x f))) (sym c.in-Least.is))
-    c.put_least.ensures.made
+    c.put_least_under.ensures.made
 
 pub returns-in-Greatest-clause-made : goal.returns-in-Greatest-clause-made
 returns-in-Greatest-clause-made g c =
     let level = g.P.Pixel.level in
     let w = c.args.lent.now in
     let r = c.args.tile in
-    let out = c.put_greatest.new.out in
-    IfOk-weaker c.put_greatest.result (λ done. done ≡ true → (f : Picture) → IsWholeView level w f → IsStrip r f → map level out ≡ cells_in r (sample (plane_of (Dilate c.deref-in-Greatest.result.now.offsets) (f ∷ []) f.width f.height)))
+    let out = c.put_greatest_under.new.out in
+    IfOk-weaker c.put_greatest_under.result (λ done. done ≡ true → (f : Picture) → IsWholeView level w f → IsStrip r f → map level out ≡ cells_in r (sample (plane_of (Dilate c.deref-in-Greatest.result.now.offsets) (f ∷ []) f.width f.height)))
     (λ done. done ≡ true → (f : Picture) → IsWholeView level w f → IsStrip r f → f.maxval ≡ c.args.maxval → map level out ≡ cells_in r (sample (rule_picture c.args.rule f)))
     (λ done made is f whole strip top.
     made is f whole strip
     ∙ ap (λ (x : Element). cells_in r (sample (plane_of (Dilate x.offsets) (f ∷ []) f.width f.height))) c.deref-in-Greatest.ensures
     ∙ ap (λ (x : Rule). cells_in r (sample (rule_picture x f))) (sym c.in-Greatest.is))
+    c.put_greatest_under.ensures.made
+
+pub returns-in-LeastBox-clause-made : goal.returns-in-LeastBox-clause-made
+returns-in-LeastBox-clause-made g c =
+    let level = g.P.Pixel.level in
+    let w = c.args.lent.now in
+    let r = c.args.tile in
+    let out = c.put_least.new.out in
+    IfOk-weaker c.put_least.result (λ done. done ≡ true → (f : Picture) → IsWholeView level w f → IsStrip r f → f.maxval ≡ c.args.maxval → map level out ≡ cells_in r (sample (plane_of (ErodeBox c.in-LeastBox.offsets) (f ∷ []) f.width f.height)))
+    (λ done. done ≡ true → (f : Picture) → IsWholeView level w f → IsStrip r f → f.maxval ≡ c.args.maxval → map level out ≡ cells_in r (sample (rule_picture c.args.rule f)))
+    (λ done made is f whole strip top. made is f whole strip top ∙ ap (λ (x : Rule). cells_in r (sample (rule_picture x f))) (sym c.in-LeastBox.is))
+    c.put_least.ensures.made
+
+pub returns-in-GreatestBox-clause-made : goal.returns-in-GreatestBox-clause-made
+returns-in-GreatestBox-clause-made g c =
+    let level = g.P.Pixel.level in
+    let w = c.args.lent.now in
+    let r = c.args.tile in
+    let out = c.put_greatest.new.out in
+    IfOk-weaker c.put_greatest.result (λ done. done ≡ true → (f : Picture) → IsWholeView level w f → IsStrip r f → map level out ≡ cells_in r (sample (plane_of (DilateBox c.in-GreatestBox.offsets) (f ∷ []) f.width f.height)))
+    (λ done. done ≡ true → (f : Picture) → IsWholeView level w f → IsStrip r f → f.maxval ≡ c.args.maxval → map level out ≡ cells_in r (sample (rule_picture c.args.rule f)))
+    (λ done made is f whole strip top. made is f whole strip ∙ ap (λ (x : Rule). cells_in r (sample (rule_picture x f))) (sym c.in-GreatestBox.is))
     c.put_greatest.ensures.made

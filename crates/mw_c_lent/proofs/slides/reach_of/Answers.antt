@@ -12,3 +12,6 @@ returns-clause-reach c =
     (omega (arith, ints, c.unsigned_abs-2.ensures.value, c.requires.right))
     (omega (arith, ints, c.unsigned_abs-3.ensures.value, c.requires.above))
     (omega (arith, ints, c.unsigned_abs-4.ensures.value, c.requires.below))
+
+pub returns-clause-low : goal.returns-clause-low
+returns-clause-low c = λ beyond box. omega (arith, ints, c.unsigned_abs-3.ensures.value, c.unsigned_abs-4.ensures.value, c.requires.above, c.requires.below, box.low)

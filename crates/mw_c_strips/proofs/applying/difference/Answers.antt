@@ -1,6 +1,16 @@
-use Rattle.std.proofs.Common.{◌∙◌}
-use Rattle.mw_c_strips.proofs.Filtered.{fills}
+use Rattle.std.proofs.Common.{ℕ, sym, subst, ◌∙◌}
+use Rattle.mw_c_arrays.specs.Sources.{picture_in}
+use Rattle.mw_c_strips.proofs.Filtered.{fills, less_alike, rule_shape}
 use Rattle.mw_c_strips.proofs.applying.difference.Goals as goal
 
+pub put_difference-requires : goal.put_difference-requires
+put_difference-requires g c = record { sound = c.requires.sound; room = c.requires.room ∙ fills c.args.f c.requires.sound }
+
 pub write_all-requires : goal.write_all-requires
-write_all-requires g c = record { sound = (c.requires.sound, c.requires.sound, c.requires.alike); size = c.requires.room ∙ fills c.args.f c.requires.sound; stands = c.requires.stands }
+write_all-requires g c =
+    let f = picture_in c.args.f in
+    record {
+      sound = (c.requires.sound, c.requires.sound, less_alike c.args.upper c.args.lower f c.requires.upper c.requires.lower);
+      size = c.put_difference.auto.out ∙ c.requires.room ∙ fills c.args.f c.requires.sound;
+      stands = subst (λ (m : ℕ). g.P.Sample.stands m) (sym (rule_shape c.args.upper f c.requires.upper).maxval) c.requires.stands;
+    }

@@ -1,18 +1,11 @@
-use Rattle.std.proofs.Common.{◌∙◌}
-use Rattle.std.specs.Arc.{arc_value}
-use Rattle.mw_plan.specs.Steps.{other}
+use Rattle.std.proofs.Common.{ℕ, ◌*◌, ap, sym, ◌∙◌}
 use Rattle.mw_c_arrays.specs.Sources.{picture_in}
-use Rattle.mw_c_strips.specs.Layers.{rule_picture}
-use Rattle.mw_c_strips.specs.Origins.{origin_picture}
-use Rattle.mw_c_strips.proofs.Filtered.{fills, slid_alike}
+use Rattle.mw_c_strips.specs.Layers.{layer_picture}
+use Rattle.mw_c_strips.proofs.Filtered.{fills}
 use Rattle.mw_c_strips.proofs.applying.left_over.Goals as goal
 
-pub write_all-requires : goal.write_all-requires
-write_all-requires g c =
+pub write_all-requires-in-Added-clause-size : goal.write_all-requires-in-Added-clause-size
+write_all-requires-in-Added-clause-size g c =
     let f = picture_in c.args.f in
-    let between = origin_picture c.args.between in
-    record {
-      sound = (c.requires.sound, c.requires.between, slid_alike (other c.args.extremum) (arc_value c.args.back.now).offsets f between (rule_picture c.slid_back.result between) c.requires.alike (c.slid_back.ensures between));
-      size = c.requires.room ∙ fills c.args.f c.requires.sound;
-      stands = c.requires.stands;
-    }
+    let h = layer_picture c.args.layer in
+    c.requires.room ∙ fills c.args.f c.requires.sound ∙ ap (λ (n : ℕ). n * f.width) (sym c.requires.alike.height) ∙ ap (λ (m : ℕ). h.height * m) (sym c.requires.alike.width)

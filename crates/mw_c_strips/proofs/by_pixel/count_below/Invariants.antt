@@ -1,11 +1,10 @@
 use Rattle.std.proofs.Common.{◌≡◌, ◌+◌, ◌≤◌, length}
-use Rattle.mw_c_strips.specs.Origins.{origin_picture}
 use Rattle.mw_model.proofs.Ranks.{count_under}
 use Rattle.mw_c_strips.proofs.UnderOffsets.{under_from}
 use Rattle.mw_c_strips.proofs.by_pixel.count_below.Given as goal
 
 abbrev pub invariant-each : goal.invariant-each
-invariant-each l = record { counted : l.count ≡ count_under l.limit (under_from (origin_picture l.f) l.offsets l.left l.x l.y); small : l.count + l.left ≤ length l.offsets }
+invariant-each g l = record { counted : l.count ≡ count_under l.limit (under_from (g.S.Levels.image l.f) l.offsets l.left l.x l.y); small : l.count + l.left ≤ length l.offsets }
 
 abbrev pub decreases-each : goal.decreases-each
-decreases-each l = l.left
+decreases-each g l = l.left

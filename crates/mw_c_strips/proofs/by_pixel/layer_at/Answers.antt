@@ -3,6 +3,7 @@ use Rattle.mw_model.specs.Pictures.{sample}
 use Rattle.mw_c_strips.specs.Origins.{IsOrigin}
 use Rattle.mw_c_strips.specs.declared.layers.Layer.{Layer}
 use Rattle.mw_c_strips.specs.Layers.{layer_picture, origin_of}
+use Rattle.mw_c_strips.proofs.OriginImages.{between_image, origin_image}
 use Rattle.mw_c_strips.proofs.by_pixel.layer_at.Goals as goal
 
 pub level_in-requires : goal.level_in-requires
@@ -18,9 +19,21 @@ returns-in-Itself c = subst (λ (l : Layer). c.level_in.result ≡ sample (layer
 pub made_at-requires : goal.made_at-requires
 made_at-requires c = record {
   sound = subst (λ (l : Layer). IsOrigin (origin_of l)) c.in-By.is c.requires.sound;
+  image = origin_image c.in-By.f (subst (λ (l : Layer). IsOrigin (origin_of l)) c.in-By.is c.requires.sound);
   across = subst (λ (l : Layer). c.args.x < (layer_picture l).width) c.in-By.is c.requires.across;
   down = subst (λ (l : Layer). c.args.y < (layer_picture l).height) c.in-By.is c.requires.down;
 }
 
 pub returns-in-By : goal.returns-in-By
 returns-in-By c = subst (λ (l : Layer). c.made_at.result ≡ sample (layer_picture l) c.args.x c.args.y) (sym c.in-By.is) c.made_at.ensures
+
+pub made_at-requires-in-Twice : goal.made_at-requires-in-Twice
+made_at-requires-in-Twice c = record {
+  sound = subst (λ (l : Layer). IsOrigin (origin_of l)) c.in-Twice.is c.requires.sound;
+  image = between_image c.in-Twice.first c.in-Twice.f (subst (λ (l : Layer). IsOrigin (origin_of l)) c.in-Twice.is c.requires.sound);
+  across = subst (λ (l : Layer). c.args.x < (layer_picture l).width) c.in-Twice.is c.requires.across;
+  down = subst (λ (l : Layer). c.args.y < (layer_picture l).height) c.in-Twice.is c.requires.down;
+}
+
+pub returns-in-Twice : goal.returns-in-Twice
+returns-in-Twice c = subst (λ (l : Layer). c.made_at-in-Twice.result ≡ sample (layer_picture l) c.args.x c.args.y) (sym c.in-Twice.is) c.made_at-in-Twice.ensures

@@ -17,10 +17,10 @@ pub returns-in-Ok : goal.returns-in-Ok
 returns-in-Ok c = λ m old jobs n small h.
     let P : Result WindowTask TaskRefused → Type 0 = λ a. Underway m old c.args.core.now (job.Ran a ∷ jobs) n in
     let k = subst P c.in-Ok.is h in
-    finish-hand m old c.args.core.now c.finish_own-answer.new.self c.in-Ok.done jobs n c.finish_own-answer.result small k (c.finish_own-answer.ensures.task k.state k.stands (handed-own m old c.args.core.now c.in-Ok.done jobs n k))
+    finish-hand m old c.args.core.now c.finish_own-answer.new.self c.in-Ok.done jobs n c.finish_own-answer.result small k (c.finish_own-answer.ensures.task k.state k.stands (handed-own m old c.args.core.now c.in-Ok.done jobs n k)) c.finish_own-answer.ensures.side
 
 pub returns-in-Err : goal.returns-in-Err
 returns-in-Err c = λ m old jobs n small h.
     let P : Result WindowTask TaskRefused → Type 0 = λ a. Underway m old c.args.core.now (job.Ran a ∷ jobs) n in
     let k = subst P c.in-Err.is h in
-    refuse-hand m old c.args.core.now c.refuse-answer.new.self c.in-Err.refused jobs n c.refuse-answer.result small k (c.refuse-answer.ensures.task k.state k.stands)
+    refuse-hand m old c.args.core.now c.refuse-answer.new.self c.in-Err.refused jobs n c.refuse-answer.result small k (c.refuse-answer.ensures.task k.state k.stands) c.refuse-answer.ensures.side

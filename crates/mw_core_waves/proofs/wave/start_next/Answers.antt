@@ -4,7 +4,7 @@ use Rattle.mw_core_waves.proofs.Waving.{take}
 use Rattle.mw_core_waves.proofs.wave.start_next.Goals as goal
 
 pub returns-clause-took : goal.returns-clause-took
-returns-clause-took g c = λ m old jobs n h. take m old c.args.core.now c.start.new.self jobs n c.start.result h (c.start.ensures.task h.state h.stands)
+returns-clause-took g c = λ m old jobs n h. take m old c.args.core.now c.start.new.self jobs n c.start.result h (c.start.ensures.task h.state h.stands) c.start.ensures.side
 
 pub returns-clause-turn : goal.returns-clause-turn
 returns-clause-turn g c =

@@ -1,21 +1,44 @@
-use Rattle.std.proofs.Common.{◌-◌, ◌<◌, List, length, sym, subst, arith}
-use Rattle.std.proofs.lemmas.List.{get_or_read}
-use Rattle.mw_geodesic_labels.specs.declared.regions.Region.{Region}
-use Rattle.mw_geodesic_labels.specs.Gathering.{no_region, TellsMore, RunAdded, begun, added}
+use Rattle.std.proofs.Common.{◌-◌, arith}
+use Rattle.mw_geodesic_labels.proofs.RowsWritten.{row_added, row_begun, row_fits, rows_fit}
 use Rattle.mw_geodesic_labels.proofs.regions.add_run.Goals as goal
 
-pub returns-in_ok-push : goal.returns-in_ok-push
-returns-in_ok-push c =
-    let regions = c.args.regions.now in
-    subst (λ (t : List Region). RunAdded c.args.run c.args.number regions.items t) (sym c.in_ok-push.ensures.items)
-    (begun c.region_of.result (omega (arith, c.len.ensures, regions.ok.0, c.if-k-len.true)) c.region_of.ensures)
+pub put_row-requires : goal.put_row-requires
+put_row-requires c =
+    let can = c.requires in
+    let room = can.room in
+    let positive = can.can.positive in
+    let size = rows_fit can.regions can.before c.args.out.now can.rows in
+    omega arith
 
-pub returns-else-k-len : goal.returns-else-k-len
-returns-else-k-len c =
-    let regions = c.args.regions.now in
-    let k = c.args.number - 1 in
-    let next = c.requires.next in
-    let positive = c.requires.positive in
-    let within : c.args.number - 1 < length regions.items = omega (arith, c.len.ensures, regions.ok.0, c.if-k-len.false) in
-    let read = get_or_read regions.items k c.index.result.now within c.index.ensures no_region in
-    added c.with_run.result k (omega arith) within (subst (λ (t : Region). TellsMore t c.args.run c.with_run.result) read c.with_run.ensures)
+pub returns-then-k-count : goal.returns-then-k-count
+returns-then-k-count c = λ can.
+    let positive = can.can.positive in
+    row_begun c.args.run c.args.number c.args.count (c.args.number - 1) c.args.out.now c.put_row.new.out c.region_of.result can (omega arith) (omega (arith, c.if-k-count.true)) c.region_of.ensures c.put_row.ensures
+
+pub row_at-region-requires : goal.row_at-region-requires
+row_at-region-requires c =
+    let can = c.requires in
+    let room = can.room in
+    let positive = can.can.positive in
+    let size = rows_fit can.regions can.before c.args.out.now can.rows in
+    omega arith
+
+pub with_run-requires-clause-fits : goal.with_run-requires-clause-fits
+with_run-requires-clause-fits c =
+    let can = c.requires in
+    let positive = can.can.positive in
+    row_fits c.args.run c.args.number c.args.count (c.args.number - 1) c.args.out.now c.row_at-region.result can (omega arith) (λ same. absurd (omega (arith, c.if-k-count.false))) c.row_at-region.ensures
+
+pub put_row-requires-2 : goal.put_row-requires-2
+put_row-requires-2 c =
+    let can = c.requires in
+    let room = can.room in
+    let positive = can.can.positive in
+    let size = rows_fit can.regions can.before c.args.out.now can.rows in
+    omega arith
+
+pub returns : goal.returns
+returns c = λ can.
+    let positive = can.can.positive in
+    row_added c.args.run c.args.number c.args.count (c.args.number - 1) c.args.out.now c.put_row-2.new.out c.row_at-region.result c.with_run.result can (omega arith) (λ same. absurd (omega (arith, c.if-k-count.false))) c.row_at-region.ensures c.with_run.ensures
+    c.put_row-2.ensures

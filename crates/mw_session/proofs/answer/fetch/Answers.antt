@@ -2,6 +2,7 @@ use Rattle.std.proofs.Common.{refl}
 use Rattle.mw_model.specs.declared.requests.Ask.TheVariants as ask
 use Rattle.mw_model.specs.Lines.{AskAlone}
 use Rattle.mw_session.proofs.Answering.{ready-by-work, answered-fetch, answered-memory}
+use Rattle.mw_session.proofs.Covering.{keeps-worked}
 use Rattle.mw_session.proofs.answer.fetch.Goals as goal
 
 pub returns-in-Ok-clause-answered : goal.returns-in-Ok-clause-answered
@@ -24,3 +25,9 @@ returns-in-Err-clause-answered g c = (
   c.note_told.ensures.marks,
   c.note_told.ensures.wrote,
 )
+
+pub returns-in-Ok-clause-keeps : goal.returns-in-Ok-clause-keeps
+returns-in-Ok-clause-keeps g c = keeps-worked _ _ _ _ _ c.run_all_work.ensures c.fetch.ensures.keeps
+
+pub returns-in-Err-clause-keeps : goal.returns-in-Err-clause-keeps
+returns-in-Err-clause-keeps g c = keeps-worked _ _ _ _ _ c.run_all_work.ensures c.fetch.ensures.keeps

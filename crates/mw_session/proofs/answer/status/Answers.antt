@@ -2,6 +2,7 @@ use Rattle.std.proofs.Common.{refl}
 use Rattle.mw_model.specs.declared.requests.Ask.TheVariants as ask
 use Rattle.mw_model.specs.Lines.{AskAlone}
 use Rattle.mw_session.proofs.Answering.{answered-status}
+use Rattle.mw_session.proofs.Covering.{keeps-worked}
 use Rattle.mw_session.proofs.answer.status.Goals as goal
 
 pub returns-clause-status : goal.returns-clause-status
@@ -19,3 +20,6 @@ returns-clause-wait g c = (
   c.note_told.ensures.marks,
   c.note_told.ensures.wrote,
 )
+
+pub returns-clause-keeps : goal.returns-clause-keeps
+returns-clause-keeps g c = keeps-worked _ _ _ _ _ c.run_all_work.ensures c.status-reply.ensures.keeps

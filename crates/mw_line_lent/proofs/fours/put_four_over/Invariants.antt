@@ -1,0 +1,15 @@
+use Rattle.std.proofs.Common.{ℕ, ◌+◌, ◌-◌, ◌*◌, ◌<◌, ◌≤◌, get_or}
+use Rattle.mw_line_lent.specs.Bests.{IsBest}
+use Rattle.mw_line_lent.specs.Boxes.{IsPutInRows}
+use Rattle.mw_line_lent.proofs.fours.put_four_over.Given as goal
+
+abbrev pub invariant-by_vector : goal.invariant-by_vector
+invariant-by_vector g l = record {
+  within : l.done ≤ l.n;
+  put : IsPutInRows 4 l.lines.at l.n l.lines.wide l.initial.out l.out;
+  made : (r i : ℕ) (d : g.row.P.Denot) → r < 4 → i < l.done
+      → IsBest g.E.Extremum.merge (λ j. g.E.Extremum.merge l.neutral (get_or l.rows.samples.now (l.rows.from + j * l.rows.stride + i) d)) r (r + l.rows.count) (get_or l.out (l.lines.at + r * l.lines.wide + i) d);
+}
+
+abbrev pub decreases-by_vector : goal.decreases-by_vector
+decreases-by_vector g l = l.n - l.done
