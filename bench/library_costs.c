@@ -76,6 +76,17 @@ static void strips(void) {
     flat_u8(MORPHD_RANK, 500, (sides){WIDE, HIGH, 31}, samples, element(31, 1), out);
 }
 
+// What is made where the caller's rows stand: rectangles, tall ones by blocks of rows, two steps with one strip between, and few offsets.
+static void standing_rows(void) {
+    size_t count = (size_t)WIDE * HIGH;
+    uint8_t *samples = bytes(count, 256), *square = element(LARGE, 0), *low = element(15, 0), *small = element(3, 0), *out = bytes(count, 256);
+    flat_u8(MORPHD_ERODE, 0, (sides){WIDE, HIGH, LARGE}, samples, square, out);
+    flat_u8(MORPHD_OPEN, 0, (sides){WIDE, HIGH, LARGE}, samples, square, out);
+    flat_u8(MORPHD_OPEN, 0, (sides){WIDE, HIGH, 15}, samples, low, out);
+    flat_u8(MORPHD_GRADIENT, 0, (sides){WIDE, HIGH, 3}, samples, small, out);
+    flat_u8(MORPHD_ERODE, 0, (sides){WIDE, HIGH, 5}, samples, element(5, 1), out);
+}
+
 static void set_strips(void) {
     size_t count = (size_t)WIDE * SET_HIGH;
     uint8_t *pixels = bytes(count, 2), *disc = element(LARGE, 1), *out = bytes(count, 2);
@@ -108,7 +119,8 @@ int main(int argc, char **argv) {
     const struct {
         const char *name;
         void (*run)(void);
-    } workloads[] = {{"small_calls", small_calls}, {"strips", strips}, {"set_strips", set_strips}, {"rows", rows}, {"iterated", iterated}};
+    } workloads[] = {{"small_calls", small_calls}, {"strips", strips}, {"standing_rows", standing_rows},
+                     {"set_strips", set_strips}, {"rows", rows}, {"iterated", iterated}};
     for (size_t i = 0; argc == 2 && i < sizeof workloads / sizeof *workloads; i++)
         if (strcmp(argv[1], workloads[i].name) == 0) {
             workloads[i].run();
