@@ -1,8 +1,9 @@
 #!/usr/bin/env python3
 """Times whole sessions of `morphd batch` by one worker in two built checkouts, on what is awkward for kernels: narrow frames,
-dark frames with hot pixels, stripes, lines, elements with gaps.
+dark frames with hot pixels, stripes, lines, elements with gaps. Or the calls of two libraries, likewise.
 
     bench/awkward.py OLD NEW [--only WORDS] [--turns 5] [--tile SIDE] [--list]
+    /usr/bin/python3 bench/awkward.py OLD.so NEW.so [--only WORDS] [--turns 5] [--list]
 
 OLD and NEW are two checkouts in which `checks/prove.py morphd` has built the program. Each session loads a picture and an
 element, runs one command so many times, waits for each result and releases it, and fetches the last one. Both programs run it by
@@ -12,6 +13,9 @@ times as long as before; the status is 1 where there are any.
 
 A row's name begins with its group, which is extrema, thresholds, ranks or sets; --only takes the rows whose name has WORDS.
 --tile gives all of them tiles of one side, in place of each row's own. Files lie in /dev/shm, that is in memory.
+
+Where both are shared libraries, with @v2 or @v3 behind the path if need be, their calls are timed (bench/awkward_calls.py says
+which, and from where on one is told as dearer). That needs a Python with cv2, as bench/library.py does.
 """
 import argparse
 import array
@@ -345,6 +349,14 @@ def rows():
         yield from group()
 
 
+def rows_of(libraries):
+    if not libraries:
+        return rows()
+    # NumPy and cv2 are wanted for calls alone
+    import awkward_calls
+    return awkward_calls.rows()
+
+
 # Times.
 
 
@@ -381,8 +393,12 @@ def compare(old, new, row, tile, turns):
     return best["old"], best["new"]
 
 
+def is_library(told):
+    return os.path.isfile(told.partition("@")[0])
+
+
 def read_words():
-    words = argparse.ArgumentParser(description="times awkward sessions in two checkouts by turns")
+    words = argparse.ArgumentParser(description="times awkward sessions in two checkouts, or calls of two libraries, by turns")
     words.add_argument("old")
     words.add_argument("new")
     words.add_argument("--only", default="", help="rows whose name has these words")
@@ -391,17 +407,18 @@ def read_words():
     words.add_argument("--list", action="store_true", help="only tell the names of the rows")
     given = words.parse_args()
     given.old, given.new = os.path.realpath(given.old), os.path.realpath(given.new)
-    wanted = [it for it in rows() if given.only in it.name]
+    given.libraries = is_library(given.old)
+    if given.libraries != is_library(given.new) or given.libraries and given.tile:
+        words.error("both have to be checkouts or both libraries, whose calls have no tiles")
+    wanted = [it for it in rows_of(given.libraries) if given.only in it.name]
     if given.turns < 1 or not wanted:
         words.error("there has to be a turn, and a row whose name has the words of --only")
     return given, wanted
 
 
-def main():
-    (given, wanted), dearer = read_words(), []
-    if given.list:
-        print("\n".join(it.name for it in wanted))
-        return
+def tell_sessions(given, wanted):
+    """Prints a line for each row, and gives those of the rows that are dearer."""
+    dearer = []
     print("| input | old, ms | new, ms | new over old |\n|---|---:|---:|---:|", flush=True)
     with tempfile.TemporaryDirectory(dir="/dev/shm") as folder:
         os.chdir(folder)
@@ -413,6 +430,20 @@ def main():
                 dearer.append(line)
         os.chdir("/")
     print("\n%d of %d sessions take over %.2f times as long" % (len(dearer), len(wanted), DEARER))
+    return dearer
+
+
+def tell_calls(given, wanted):
+    import awkward_calls
+    return awkward_calls.tell(given.old, given.new, wanted, given.turns)
+
+
+def main():
+    given, wanted = read_words()
+    if given.list:
+        print("\n".join(it.name for it in wanted))
+        return
+    dearer = (tell_calls if given.libraries else tell_sessions)(given, wanted)
     print("".join(line + "\n" for line in dearer), end="")
     sys.exit(1 if dearer else 0)
 

@@ -16,6 +16,7 @@ waits for a page, from a heap that is empty. With `alone` it only calls libmorph
 Python with cv2 (Debian: python3-opencv).
 """
 import ctypes
+import functools
 import os
 import pathlib
 import re
@@ -55,16 +56,27 @@ def opened(told):
     return f"{path}, for x86-64-{build}", library
 
 
-def flat(library, kind):
-    """The flat call of a kind of samples, on arrays of NumPy."""
+def prepared(library, kind):
+    """What gets the flat call of a kind of samples ready, on arrays of NumPy that stay where they are: called, it gives the answer."""
     call = getattr(library, "morphd_flat_" + kind)
     call.restype, call.argtypes = ctypes.c_int32, [NUMBER] * 4 + LEVELS[kind] + ARRAY + ELEMENT + ARRAY
 
-    def run(operation, k, image, element, out):
+    def ready(operation, k, image, element, out, origin=None):
         (height, width), (rows, columns) = image.shape, element.shape
         tops = [] if kind == "set" else [numpy.iinfo(image.dtype).max]
-        bitmap = (element.ctypes.data, element.size, columns, rows, columns // 2, rows // 2)
-        answer = call(operation, k, width, height, *tops, image.ctypes.data, image.size, *bitmap, out.ctypes.data, out.size)
+        # a column and a row; the middle, if it is left out
+        bitmap = (element.ctypes.data, element.size, columns, rows, *(origin or (columns // 2, rows // 2)))
+        words = (operation, k, width, height, *tops, image.ctypes.data, image.size, *bitmap, out.ctypes.data, out.size)
+        return functools.partial(call, *(type_of(word) for type_of, word in zip(call.argtypes, words)))
+    return ready
+
+
+def flat(library, kind):
+    """The flat call of a kind of samples, on arrays of NumPy."""
+    ready = prepared(library, kind)
+
+    def run(operation, k, image, element, out):
+        answer = ready(operation, k, image, element, out)()
         if answer:
             sys.exit("answer %d" % answer)
     return run

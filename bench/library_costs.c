@@ -76,7 +76,8 @@ static void strips(void) {
     flat_u8(MORPHD_RANK, 500, (sides){WIDE, HIGH, 31}, samples, element(31, 1), out);
 }
 
-// What is made where the caller's rows stand: rectangles, tall ones by blocks of rows, two steps with one strip between, and few offsets.
+// What is made where the caller's rows stand: rectangles, tall ones by blocks of rows, two steps with one strip between, few offsets, and
+// chords of long runs.
 static void standing_rows(void) {
     size_t count = (size_t)WIDE * HIGH;
     uint8_t *samples = bytes(count, 256), *square = element(LARGE, 0), *low = element(15, 0), *small = element(3, 0), *out = bytes(count, 256);
@@ -85,6 +86,19 @@ static void standing_rows(void) {
     flat_u8(MORPHD_OPEN, 0, (sides){WIDE, HIGH, 15}, samples, low, out);
     flat_u8(MORPHD_GRADIENT, 0, (sides){WIDE, HIGH, 3}, samples, small, out);
     flat_u8(MORPHD_ERODE, 0, (sides){WIDE, HIGH, 5}, samples, element(5, 1), out);
+    flat_u8(MORPHD_ERODE, 0, (sides){WIDE, HIGH, 15}, samples, element(15, 1), out);
+    flat_u8(MORPHD_ERODE, 0, (sides){WIDE, HIGH, 31}, samples, element(31, 1), out);
+}
+
+// On frames of one row and of few, over and over: what is asked for and filled there.
+static void low_frames(void) {
+    sides one = {8192, 1, 15}, few = {65, 64, 9};
+    uint8_t *samples = bytes(8192, 256), *square = element(15, 0), *disc = element(9, 1), *out = bytes(8192, 256);
+    for (int round = 0; round < 100; round++) {
+        flat_u8(MORPHD_ERODE, 0, one, samples, square, out);
+        flat_u8(MORPHD_OPEN, 0, one, samples, square, out);
+        flat_u8(MORPHD_ERODE, 0, few, samples, disc, out);
+    }
 }
 
 static void set_strips(void) {
@@ -120,7 +134,7 @@ int main(int argc, char **argv) {
         const char *name;
         void (*run)(void);
     } workloads[] = {{"small_calls", small_calls}, {"strips", strips}, {"standing_rows", standing_rows},
-                     {"set_strips", set_strips}, {"rows", rows}, {"iterated", iterated}};
+                     {"low_frames", low_frames}, {"set_strips", set_strips}, {"rows", rows}, {"iterated", iterated}};
     for (size_t i = 0; argc == 2 && i < sizeof workloads / sizeof *workloads; i++)
         if (strcmp(argv[1], workloads[i].name) == 0) {
             workloads[i].run();

@@ -2,6 +2,7 @@
 """Times the Python package beside OpenCV, SciPy and scikit-image, on one thread and on four, and what it adds to the library.
 
     python3 bench/python.py [SIDE..]        sides of the pictures; 1024 and 4096 if left out
+    python3 bench/python.py opencv [SIDE..] the same beside OpenCV alone, in a few minutes
     python3 bench/python.py floods [SIDE..] watersheds and touching grains alone
 
 Each time is the best of five runs or more in milliseconds, taken by turns in one process; gains of four workers are told beside what
@@ -38,8 +39,10 @@ def optional(name):
         return None
 
 
-cv2, ndimage, skimage = optional("cv2"), optional("scipy.ndimage"), optional("skimage.morphology")
-segmentation = optional("skimage.segmentation")
+WORDS = ("opencv", "floods")
+cv2, ndimage, skimage, segmentation = optional("cv2"), None, None, None
+if "opencv" not in sys.argv:
+    ndimage, skimage, segmentation = optional("scipy.ndimage"), optional("skimage.morphology"), optional("skimage.segmentation")
 
 
 def picture(side):
@@ -243,7 +246,7 @@ def main():
     except morphd.LibraryMissing as missing:
         sys.exit(f"no times of the Python package: {missing}")
     words = sys.argv[1:]
-    sides = [int(word) for word in words if word != "floods"] or [1024, 4096]
+    sides = [int(word) for word in words if word not in WORDS] or [1024, 4096]
     if "floods" in words:
         for side in sides:
             tell_floods(side)
@@ -256,7 +259,8 @@ def main():
     tell_gains(4096)
     for side in sides:
         tell_jobs(side)
-        tell_floods(side)
+        if "opencv" not in words:
+            tell_floods(side)
 
 
 if __name__ == "__main__":

@@ -59,7 +59,7 @@ def _checked(options: Options) -> Options:
     _plans.check_compat(options.compat)
     if options.mode == "constant":
         real(options.cval, "cval")
-    return replace(options, workers=_threads.worker_count(options.workers))
+    return options if options.workers is None else replace(options, workers=_threads.worker_count(options.workers))
 
 
 def plane_axes(array: Array, axes: tuple[int, int]) -> tuple[int, int]:

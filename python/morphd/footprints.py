@@ -220,9 +220,13 @@ class Footprint:
     def __array__(self, dtype: Any = None, copy: bool | None = None) -> Any:
         return self.bitmap if dtype is None else self.bitmap.astype(dtype)
 
-    def __neg__(self) -> Footprint:
+    @cached_property
+    def _reflected(self) -> Footprint:
         (rows, columns), (row, column) = self.shape, self.origin
         return Footprint._of(self.pixels[::-1], self.shape, (rows - 1 - row, columns - 1 - column))
+
+    def __neg__(self) -> Footprint:
+        return self._reflected
 
     def __eq__(self, other: object) -> bool:
         if not isinstance(other, Footprint):

@@ -41,7 +41,7 @@ FootprintLike = Footprint | ArrayLike
 
 
 def _flat(name: str, image: Any, footprint: FootprintLike, options: Options) -> Array:
-    b = Footprint(footprint)
+    b = footprint if isinstance(footprint, Footprint) else Footprint(footprint)
     return made_of(Work(name, lambda reading: _plans.of(name, b, options.compat, reading.field.is_set)), image, options)
 
 

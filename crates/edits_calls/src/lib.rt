@@ -6,8 +6,8 @@
 
 mod arrays;
 mod images;
-mod strips;
+mod rows;
 
 pub use arrays::flat_u8;
 pub use images::apply;
-pub use strips::write_plan_rows;
+pub use rows::flat_rows_u8;

@@ -14,8 +14,7 @@ ghost use Rattle.mw_c_calls.specs.Sources.{LevelsStandIn};
 
 use crate::making::{drawn_by, hits_of, measured_by};
 use crate::operations::{name, operation_of};
-use crate::thresholding::write_threshold;
-use crate::writing::write_by;
+use crate::writing::{write_by, write_threshold};
 use mw_c_arrays::{ArrayImage, Bitmap, Code, NoMemory, Set, first_of, when};
 use mw_c_direct::{Curve, GranOp, Image, Op};
 use mw_c_strips::Sample;

@@ -25,7 +25,6 @@ mod plans;
 mod residues;
 mod row_calls;
 mod spectra;
-mod thresholding;
 mod thresholds;
 mod writing;
 

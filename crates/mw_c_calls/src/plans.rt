@@ -5,6 +5,7 @@ ghost use Rattle.mw_model.specs.declared.limits.TheConstants.{LEVEL_LIMIT};
 ghost use Rattle.mw_model.specs.declared.operations.Op.{Op};
 ghost use Rattle.mw_model.specs.Flat.{threshold};
 ghost use Rattle.mw_model.specs.Values.{shape_of_picture};
+ghost use Rattle.mw_plan.specs.Forms.{has_rows, is_row_plan, is_strip_plan};
 ghost use Rattle.mw_plan.specs.Steps.{last_plane, operator_of};
 ghost use Rattle.mw_c_arrays.specs.Arrays.{element_in};
 ghost use Rattle.mw_c_arrays.specs.Sound.{IsElementBitmap};
@@ -48,6 +49,8 @@ pub(crate) fn plan_by(
     requires image { IsArrayImage f }
     requires element { IsElementBitmap b.now }
     requires one { takes_one (Op.Flat op.now) ≡ true }
+    ensures strips { IfOk result (λ p. is_strip_plan p ≡ true) }
+    ensures rows { IfOk result (λ p. is_row_plan p ≡ has_rows op.now) }
     ensures plan { IfOk result (λ p. last_plane p (picture_in f.entry) ≡ operator_of op.now (element_in b.now) [] (picture_in f.entry)) }
     ensures told { IsTold None (operation_fault (Op.Flat op.now) (picture_in f.entry) (element_in b.now)) result }
 {
@@ -71,7 +74,8 @@ pub(crate) fn plan_by(
 pub(crate) fn plan_of_threshold(alloc: Global, k: u32, f: ArrayImage<'_>) -> Result<Plan, NoMemory>
     requires image { IsArrayImage f }
     requires level { k ≤ LEVEL_LIMIT }
-    ensures { IfOk result (λ p. last_plane p (picture_in f.entry) ≡ threshold k (picture_in f.entry)) }
+    ensures strips { IfOk result (λ p. is_strip_plan p ≡ true) }
+    ensures plan { IfOk result (λ p. last_plane p (picture_in f.entry) ≡ threshold k (picture_in f.entry)) }
 {
     let op = FlatOp::Threshold(name(), k);
     let shape = shape_of(f);

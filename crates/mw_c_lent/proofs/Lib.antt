@@ -7,5 +7,6 @@ mod Slid
 mod Stood
 mod Narrowed
 mod Lessened
+mod Ranges
 mod Views
 mod UnderBoxes

@@ -79,7 +79,7 @@ steps_made level f s top m n place strip part out is wide high strip-is place-is
 pub record GrownRows (m n : ℕ) (reach : Reach) (r place : Rect) : Type 0 where
   pub within : IsWithin place m n
   pub across : place.width ≡ m
-  pub few : place.height ≤ r.height + (reach.up + reach.down)
+  pub few : place.height ≤ min (r.height + (reach.up + reach.down)) n
   pub from : place.y ≡ seen_from reach r
   pub to : place.y + place.height ≡ seen_to n reach r
   pub rows : AreFrameRows place m n
@@ -121,8 +121,8 @@ pub whole_sides : {A : Type 0} (level : A → ℕ) (w : View A) (f : Picture) �
 whole_sides {A} level w f whole = (ap (λ (v : View A). v.frame_width) whole.view, ap (λ (v : View A). v.frame_height) whole.view)
 
 -- there is room for as many rows
-pub room_for : (a b c w n : ℕ) → a ≤ b + c → (b + c) * w ≤ n → a * w ≤ n
-room_for a b c w n le room = omega (arith, mul-le a w (b + c) w le (omega arith), room)
+pub room_for : (a b w n : ℕ) → a ≤ b → b * w ≤ n → a * w ≤ n
+room_for a b w n le room = omega (arith, mul-le a w b w le (omega arith), room)
 
 -- there is room for the rows of a strip where there is for all
 pub strip_fits : (m n count : ℕ) (r : Rect) → AreFrameRows r m n → count ≡ n * m → r.y * r.width + r.height * r.width ≤ count

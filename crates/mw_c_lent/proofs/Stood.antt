@@ -1,5 +1,5 @@
 -- Rows that stand in the front of a buffer: moved there, made behind others, and read.
-use Rattle.std.proofs.Common.{◌≡◌, ℕ, ◌+◌, ◌-◌, ◌*◌, ◌<◌, ◌≤◌, List, map, length, take, get_or, ap, sym, subst, arith, ◌∙◌, length-take, get_or-take}
+use Rattle.std.proofs.Common.{◌≡◌, ℕ, ◌+◌, ◌-◌, ◌*◌, ◌<◌, ◌≤◌, min, List, map, length, take, get_or, ap, sym, subst, arith, ◌∙◌, length-take, get_or-take}
 use Rattle.std.specs.List.{CopiedTo}
 use Rattle.std.proofs.lemmas.List.{length-map}
 use Rattle.std.proofs.lemmas.Nat.{mul-add-lt, mul-le}
@@ -77,10 +77,11 @@ front_is {A} level f r n cells part strip count room is rows =
 -- ---- how many there are
 
 -- there is room for the rows that are looked at for a strip
-pub grown_held : (m n : ℕ) (reach : Reach) (r place : Rect) (w count : ℕ) → GrownRows m n reach r place → w ≡ r.width → (r.height + (reach.up + reach.down)) * r.width ≤ count → (place.y + place.height - place.y) * w ≤ count
+pub grown_held : (m n : ℕ) (reach : Reach) (r place : Rect) (w count : ℕ) → GrownRows m n reach r place → w ≡ r.width → min (r.height + (reach.up + reach.down)) n * r.width ≤ count → (place.y + place.height - place.y) * w ≤ count
 grown_held m n reach r place w count rows same room =
-    let few : place.y + place.height - place.y ≤ r.height + (reach.up + reach.down) = omega (arith, rows.few) in
-    room_for (place.y + place.height - place.y) r.height (reach.up + reach.down) w count few (subst (λ (t : ℕ). (r.height + (reach.up + reach.down)) * t ≤ count) (sym same) room)
+    let most : ℕ = min (r.height + (reach.up + reach.down)) n in
+    let few : place.y + place.height - place.y ≤ most = omega (arith, rows.few) in
+    room_for (place.y + place.height - place.y) most w count few (subst (λ (t : ℕ). most * t ≤ count) (sym same) room)
 
 -- rows are those above one and those from it on
 pub two_parts : (from to end w : ℕ) → from ≤ to → to ≤ end → (to - from) * w + (end - to) * w ≡ (end - from) * w

@@ -1,5 +1,5 @@
 -- Extrema under full rectangles, one after another (own).
-use Rattle.std.specs.Prelude.{ℕ, ◌≡◌, ◌+◌, ◌≤◌, List}
+use Rattle.std.specs.Prelude.{ℕ, ◌≡◌, ◌+◌, ◌-◌, ◌≤◌, List}
 use Rattle.mw_model.specs.declared.offsets.OffsetBox.{OffsetBox}
 use Rattle.mw_model.specs.declared.offsets.Rect.{Rect}
 use Rattle.mw_model.specs.Flat.{dilation, erosion, greatest, least}
@@ -19,6 +19,10 @@ slide_box (slide.Greatest b) = b
 abbrev pub slide_value : ℕ → Slide → List ℕ → ℕ
 slide_value top (slide.Least b) ns = least top ns
 slide_value top (slide.Greatest b) ns = greatest ns
+
+-- the greatest of levels less the least, which is the top where there are none
+abbrev pub range_value : ℕ → List ℕ → ℕ
+range_value top ns = greatest ns - least top ns
 
 -- the erosion or the dilation of an image
 abbrev pub slide_picture : Slide → Picture → Picture

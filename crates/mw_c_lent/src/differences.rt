@@ -1,7 +1,7 @@
 //! One strip of a difference: of two extrema of an image under full rectangles, or of an image and its opening or closing by them.
 //! What is subtracted was written just before, so it is in the cache.
 
-ghost use Rattle.std.specs.Prelude.{◌≡◌, ◌+◌, ◌*◌, ◌≤◌, length, map, slice_range};
+ghost use Rattle.std.specs.Prelude.{◌≡◌, ◌+◌, ◌*◌, ◌≤◌, length, map, min, slice_range};
 ghost use Rattle.mw_model.specs.Flat.{minus};
 ghost use Rattle.mw_model.specs.Pictures.{Picture, sample};
 ghost use Rattle.mw_model.specs.Tasks.{cells_in};
@@ -76,7 +76,7 @@ pub(crate) fn put_added<P: Lendable>(
     requires sound { AreSteps job.steps }
     requires whole { lent.now.place ≡ whole_frame lent.now.frame_width lent.now.frame_height }
     requires strip { AreFrameRows strip lent.now.frame_width lent.now.frame_height }
-    requires between { (strip.height + (job.steps.reach.up + job.steps.reach.down)) * strip.width ≤ length between.now }
+    requires between { min (strip.height + (job.steps.reach.up + job.steps.reach.down)) lent.now.frame_height * strip.width ≤ length between.now }
     requires lines { 6 * (strip.width + 255) ≤ length room.old }
     requires room { length out.old ≡ strip.height * strip.width }
     requires stands { HasRowsAround P.level lent.now job.steps.first job.steps.reach (P.level job.top) strip between.now }
@@ -99,7 +99,7 @@ pub(crate) fn put_taken<P: Lendable>(
     requires sound { AreSteps job.steps }
     requires whole { lent.now.place ≡ whole_frame lent.now.frame_width lent.now.frame_height }
     requires strip { AreFrameRows strip lent.now.frame_width lent.now.frame_height }
-    requires between { (strip.height + (job.steps.reach.up + job.steps.reach.down)) * strip.width ≤ length between.now }
+    requires between { min (strip.height + (job.steps.reach.up + job.steps.reach.down)) lent.now.frame_height * strip.width ≤ length between.now }
     requires lines { 6 * (strip.width + 255) ≤ length room.old }
     requires room { length out.old ≡ strip.height * strip.width }
     requires stands { HasRowsAround P.level lent.now job.steps.first job.steps.reach (P.level job.top) strip between.now }

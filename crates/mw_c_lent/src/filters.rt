@@ -1,4 +1,5 @@
-//! Operators by full rectangles that are made by strips: openings and closings, what these take and add, and gradients.
+//! Operators by full rectangles: openings and closings, what these take and add, and gradients. All are made by strips but gradients
+//! by rectangles of few rows, which are made in one pass.
 
 ghost use Rattle.std.specs.Prelude.{◌≡◌, ◌*◌, length, map, IfErr, IfOk, false, true};
 ghost use Rattle.mw_model.specs.Flat.{minus};
@@ -6,6 +7,7 @@ ghost use Rattle.mw_c_arrays.specs.Sources.{IsArrayImage, picture_in};
 ghost use Rattle.mw_c_lent.specs.Recipes.{AreTwoBoxes, AreTwoSteps};
 ghost use Rattle.mw_c_lent.specs.Rules.{rule_picture};
 
+use crate::gradients::put_range;
 use crate::lendable::Lendable;
 use crate::recipes::{Recipe, put_recipe};
 use crate::rules::Rule;
@@ -99,5 +101,8 @@ pub fn put_difference<P: Lendable>(
     let Some(lower) = slide_of(lower) else {
         return Ok(false);
     };
+    if put_range(alloc, upper, lower, f, out)? {
+        return Ok(true);
+    }
     put_recipe(alloc, Recipe::Less(upper, lower), f, out)
 }

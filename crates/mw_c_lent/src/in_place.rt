@@ -18,7 +18,6 @@ use mw_c_arrays::ArrayImage;
 use mw_element::Element;
 use mw_grid::whole_frame;
 use mw_model::{NoMemory, OffsetBox, Rect};
-use mw_offset_lent::is_quick as is_quick_under;
 use mw_rank_lent::{Lent, medians_into};
 use std::alloc::Global;
 use std::sync::Arc;
@@ -63,7 +62,7 @@ pub fn middle_of<'a>(rule: Rule<'a>, f: ArrayImage<'a>, first: u32, end: u32) ->
     Some(Middle { rule, f, from, to })
 }
 
-/// Writes the least under an element of few offsets, in a tile of an image with this maxval.
+/// Writes the least under an element, in a tile of an image with this maxval.
 fn put_least_under<P: Lendable>(
     alloc: Global,
     lent: &Lent<P>,
@@ -77,16 +76,13 @@ fn put_least_under<P: Lendable>(
     ensures left_out { IfOk result (λ done. done ≡ false → out.new ≡ out.old) }
     ensures kept { IfErr result (λ _. out.new ≡ out.old) }
 {
-    if !is_quick_under(element.offsets()) {
-        return Ok(false);
-    }
     let Some(neutral) = P::of(maxval) else {
         return Ok(false);
     };
     P::least_under(alloc, lent, element.offsets(), neutral, tile, out)
 }
 
-/// Writes the greatest under an element of few offsets, in a tile.
+/// Writes the greatest under an element, in a tile.
 fn put_greatest_under<P: Lendable>(
     alloc: Global,
     lent: &Lent<P>,
@@ -99,9 +95,6 @@ fn put_greatest_under<P: Lendable>(
     ensures left_out { IfOk result (λ done. done ≡ false → out.new ≡ out.old) }
     ensures kept { IfErr result (λ _. out.new ≡ out.old) }
 {
-    if !is_quick_under(element.offsets()) {
-        return Ok(false);
-    }
     P::greatest_under(alloc, lent, element.offsets(), tile, out)
 }
 

@@ -3,19 +3,25 @@
 ghost use Rattle.std.specs.Prelude.{◌≡◌, ℕ, ◌+◌, ◌-◌, ◌*◌, ◌≤◌, length, map, IfErr, IfNone, IfOk, IfSome, false, true};
 ghost use lib.Lanes.{zip2};
 ghost use Rattle.mw_model.specs.Flat.{greatest, least};
+ghost use Rattle.mw_model.specs.Rasters.{raster};
 ghost use Rattle.mw_model.specs.Rectangles.{box_offsets};
 ghost use Rattle.mw_model.specs.Windows.{seen_at};
 ghost use Rattle.mw_c_arrays.specs.Sources.{picture_in};
+ghost use Rattle.mw_line.specs.Extrema.{IsSlidingExtremum};
 ghost use Rattle.mw_line_lent.specs.Near.{IsAround, StandsInside};
 ghost use Rattle.mw_c_lent.specs.Boxes.{IsMadeUnder};
 ghost use Rattle.mw_c_lent.specs.Levels.{HasLevelsUpTo};
+ghost use Rattle.mw_c_lent.specs.Slides.{range_value};
 
 use crate::subtracting::subtract_from;
 use mw_c_arrays::ArrayImage;
+use mw_chord_lent::chords_into;
 use mw_line::lane::subtract_rows;
-use mw_line_lent::{Lent, Max, Min, boxes_into, boxes_with_room};
+use mw_line_lent::{
+    Ends, Laned, LanedExtremum, Lent, Max, Min, boxes_into, boxes_with_room, differences_into,
+};
 use mw_model::{NoMemory, Offset, OffsetBox, Rect};
-use mw_offset_lent::offsets_into;
+use mw_offset_lent::{is_quick, offsets_into};
 use mw_rank_lent::Vectored;
 use std::alloc::Global;
 
@@ -88,7 +94,7 @@ pub trait Lendable: Vectored {
         ensures size { length out.new ≡ length out.old }
         ensures made { IsMadeUnder greatest Self.level (seen_at lent.now) (box_offsets offsets) tile out.new };
 
-    /// Writes the least of the neutral sample and those that are lent under few offsets, at each place of a tile, if it can. Says
+    /// Writes the least of the neutral sample and those that are lent under offsets, at each place of a tile, if it can. Says
     /// whether it did: where not, it writes nothing. It may want memory (`NoMemory`), but only before it writes.
     fn least_under(
         alloc: Global,
@@ -125,6 +131,56 @@ pub trait Lendable: Vectored {
     fn subtract_from_row(row: &mut [Self], other: &[Self])
         requires { length row.old ≡ length other.now }
         ensures { map Self.level row.new ≡ zip2 (λ (m n : ℕ). m - n) (map Self.level other.now) (map Self.level row.old) };
+
+    /// Writes the greatest of those that are lent under a box, less the least of them and the top sample, at each place of a tile, if
+    /// it can. Says whether it did: where not, it writes nothing. It may want memory (`NoMemory`), but only before it writes.
+    fn gradient_into(
+        alloc: Global,
+        lent: &Lent<Self>,
+        offsets: OffsetBox,
+        top: Self,
+        tile: Rect,
+        out: &mut [Self],
+    ) -> Result<bool, NoMemory>
+        requires { length out.old ≡ tile.height * tile.width }
+        ensures made { IfOk result (λ done. done ≡ true → IsMadeUnder (range_value (Self.level top)) Self.level (seen_at lent.now) (box_offsets offsets) tile out.new) }
+        ensures left_out { IfOk result (λ done. done ≡ false → out.new ≡ out.old) }
+        ensures kept { IfErr result (λ _. out.new ≡ out.old) };
+}
+
+/// How many rows and samples a tile has at least for offsets: in a smaller one it takes longer to find what two rows share than to
+/// merge its samples.
+const ROWS: u32 = 8;
+
+const SAMPLES: u32 = 8192;
+
+/// Whether a tile is so small that offsets are sooner merged in a window of it. Any answer is right.
+fn is_small(tile: Rect) -> bool {
+    tile.height < ROWS || tile.width.saturating_mul(tile.height) < SAMPLES
+}
+
+/// Writes the extremum of the neutral sample and those that are lent under offsets, at each place of a tile, if it can: offset by
+/// offset where they lie in short runs, and else by the chords of the runs.
+fn extremum_under<P: Laned, E: LanedExtremum<P>>(
+    alloc: Global,
+    lent: &Lent<P>,
+    offsets: &[Offset],
+    neutral: P,
+    tile: Rect,
+    out: &mut [P],
+) -> Result<bool, NoMemory>
+    requires { length out.old ≡ tile.height * tile.width }
+    ensures over_window { IfOk result (λ done. done ≡ true → IsSlidingExtremum E.merge neutral (seen_at lent.now) offsets.now tile (raster tile.width tile.height out.new)) }
+    ensures left_out { IfOk result (λ done. done ≡ false → out.new ≡ out.old) }
+    ensures kept { IfErr result (λ _. out.new ≡ out.old) }
+{
+    if is_small(tile) {
+        return Ok(false);
+    }
+    if is_quick(offsets) {
+        return offsets_into::<P, E>(alloc, lent, offsets, neutral, tile, out);
+    }
+    chords_into::<P, E>(alloc, lent, offsets, neutral, tile, out)
 }
 
 impl Lendable for u8 {
@@ -186,7 +242,7 @@ impl Lendable for u8 {
         tile: Rect,
         out: &mut [u8],
     ) -> Result<bool, NoMemory> {
-        offsets_into::<u8, Min>(alloc, lent, offsets, neutral, tile, out)
+        extremum_under::<u8, Min>(alloc, lent, offsets, neutral, tile, out)
     }
 
     fn greatest_under(
@@ -196,7 +252,7 @@ impl Lendable for u8 {
         tile: Rect,
         out: &mut [u8],
     ) -> Result<bool, NoMemory> {
-        offsets_into::<u8, Max>(alloc, lent, offsets, 0, tile, out)
+        extremum_under::<u8, Max>(alloc, lent, offsets, 0, tile, out)
     }
 
     fn subtract_row(row: &mut [u8], other: &[u8]) {
@@ -205,6 +261,18 @@ impl Lendable for u8 {
 
     fn subtract_from_row(row: &mut [u8], other: &[u8]) {
         subtract_from(row, other);
+    }
+
+    fn gradient_into(
+        alloc: Global,
+        lent: &Lent<u8>,
+        offsets: OffsetBox,
+        top: u8,
+        tile: Rect,
+        out: &mut [u8],
+    ) -> Result<bool, NoMemory> {
+        let ends = Ends { bottom: 0, top };
+        differences_into::<u8, Max, Min>(alloc, lent, offsets, ends, tile, out)
     }
 }
 
@@ -267,7 +335,7 @@ impl Lendable for u16 {
         tile: Rect,
         out: &mut [u16],
     ) -> Result<bool, NoMemory> {
-        offsets_into::<u16, Min>(alloc, lent, offsets, neutral, tile, out)
+        extremum_under::<u16, Min>(alloc, lent, offsets, neutral, tile, out)
     }
 
     fn greatest_under(
@@ -277,7 +345,7 @@ impl Lendable for u16 {
         tile: Rect,
         out: &mut [u16],
     ) -> Result<bool, NoMemory> {
-        offsets_into::<u16, Max>(alloc, lent, offsets, 0, tile, out)
+        extremum_under::<u16, Max>(alloc, lent, offsets, 0, tile, out)
     }
 
     fn subtract_row(row: &mut [u16], other: &[u16]) {
@@ -286,5 +354,17 @@ impl Lendable for u16 {
 
     fn subtract_from_row(row: &mut [u16], other: &[u16]) {
         subtract_from(row, other);
+    }
+
+    fn gradient_into(
+        alloc: Global,
+        lent: &Lent<u16>,
+        offsets: OffsetBox,
+        top: u16,
+        tile: Rect,
+        out: &mut [u16],
+    ) -> Result<bool, NoMemory> {
+        let ends = Ends { bottom: 0, top };
+        differences_into::<u16, Max, Min>(alloc, lent, offsets, ends, tile, out)
     }
 }

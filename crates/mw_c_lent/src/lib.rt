@@ -1,5 +1,5 @@
 //! What kernels make of rows where they stand in a caller's array, written into the caller's rows: medians under squares, the least
-//! and the greatest under full rectangles and under few offsets, and by full rectangles openings, closings, gradients and top-hats. No
+//! and the greatest under elements of any shape, and by full rectangles openings, closings, gradients and top-hats. No
 //! window is copied, no plane filled, and nothing copied out.
 //!
 //! ```text
@@ -13,6 +13,7 @@
 
 mod differences;
 mod filters;
+mod gradients;
 mod in_place;
 mod lendable;
 mod recipes;

@@ -1,9 +1,9 @@
 //! What is made of rows where they stand in a caller's array by strips, into the caller's rows: openings and closings by full
 //! rectangles, what these take and add, and differences of two extrema. Strips are so low that what is written between two steps is
-//! in the cache when it is read, and have four times as many rows as a second step looks at beyond them. All memory is asked for
-//! before anything is written.
+//! in the cache when it is read. Where memory has room, they have at least four times as many rows as a second step looks at beyond
+//! them, and as many as are made together under a tall rectangle. All memory is asked for before anything is written.
 
-ghost use Rattle.std.specs.Prelude.{◌≡◌, ◌+◌, ◌*◌, ◌≤◌, max, length, map, IfErr, IfNone, IfOk, IfSome, false, true};
+ghost use Rattle.std.specs.Prelude.{◌≡◌, ◌+◌, ◌*◌, ◌≤◌, max, min, length, map, IfErr, IfNone, IfOk, IfSome, false, true};
 ghost use Rattle.mw_model.specs.Pictures.{Picture, sample};
 ghost use Rattle.mw_model.specs.Tasks.{cells_in};
 ghost use Rattle.mw_grid.specs.Rectangles.{whole_frame};
@@ -88,7 +88,7 @@ fn put_rows<P: Lendable>(
     requires sound { IsRecipe order.recipe }
     requires whole { lent.now.place ≡ whole_frame lent.now.frame_width lent.now.frame_height }
     requires strip { AreFrameRows strip lent.now.frame_width lent.now.frame_height }
-    requires between { (strip.height + rows_beyond order.recipe) * strip.width ≤ length between.now }
+    requires between { min (strip.height + rows_beyond order.recipe) lent.now.frame_height * strip.width ≤ length between.now }
     requires lines { 6 * (strip.width + 255) ≤ length room.old }
     requires room { length out.old ≡ strip.height * strip.width }
     requires stands { HasRowsAround P.level lent.now (made_first order.recipe).slide (made_first order.recipe).reach (P.level order.top) strip between.now }
@@ -119,7 +119,7 @@ fn put_rows_behind<P: Lendable>(
     requires sound { IsRecipe order.recipe }
     requires whole { lent.now.place ≡ whole_frame lent.now.frame_width lent.now.frame_height }
     requires strip { AreFrameRows strip lent.now.frame_width lent.now.frame_height }
-    requires between { (strip.height + rows_beyond order.recipe) * strip.width ≤ length between.now }
+    requires between { min (strip.height + rows_beyond order.recipe) lent.now.frame_height * strip.width ≤ length between.now }
     requires lines { 6 * (strip.width + 255) ≤ length room.old }
     requires room { strip.y * strip.width + strip.height * strip.width ≤ length out.old }
     requires stands { HasRowsAround P.level lent.now (made_first order.recipe).slide (made_first order.recipe).reach (P.level order.top) strip between.now }
@@ -146,7 +146,7 @@ fn put_all<P: Lendable>(
     requires whole { lent.now.place ≡ whole_frame lent.now.frame_width lent.now.frame_height }
     requires wide { 32 ≤ lent.now.frame_width }
     requires some { 1 ≤ rows }
-    requires between { (rows + rows_beyond order.recipe) * lent.now.frame_width ≤ length between.old }
+    requires between { min (rows + rows_beyond order.recipe) lent.now.frame_height * lent.now.frame_width ≤ length between.old }
     requires lines { 6 * (lent.now.frame_width + 255) ≤ length room.old }
     requires room { length out.old ≡ lent.now.frame_height * lent.now.frame_width }
     ensures { (f : Picture) → IsWholeView P.level lent.now f → f.maxval ≡ P.level order.top → map P.level out.new ≡ (recipe_picture order.recipe f).samples }
@@ -241,8 +241,9 @@ fn beyond_of(recipe: Recipe) -> u32
     beyond
 }
 
-/// How many rows of room the rectangles of a recipe make use of beside six lines; a strip of as many is made together.
-fn rows_made_together(recipe: Recipe) -> u32
+/// How many rows of room the rectangles of a recipe make use of beside six lines, in a frame of so many rows; a strip of as many is
+/// made together.
+fn rows_made_together(recipe: Recipe, height: u32) -> u32
     ensures { result ≤ 260 }
 {
     let (a, b) = match recipe {
@@ -251,7 +252,7 @@ fn rows_made_together(recipe: Recipe) -> u32
         Recipe::Added(steps) => (steps.first, steps.second),
         Recipe::Less(upper, lower) => (upper, lower),
     };
-    rows_of_room(a).max(rows_of_room(b))
+    rows_of_room(a, height).max(rows_of_room(b, height))
 }
 
 /// Writes what is made of an image, if that can be made here. Says whether it did: where not, it writes nothing. It may want memory
@@ -278,7 +279,7 @@ pub(crate) fn put_recipe<P: Lendable>(
     };
     let (width, height) = (f.width(), f.height());
     let beyond = beyond_of(recipe);
-    let together = rows_made_together(recipe);
+    let together = rows_made_together(recipe, height);
     let size = strip_size(recipe);
     let Some(rows) = rows_of_strip(size, together, row_size(f), beyond, height) else {
         return Ok(false);
@@ -287,7 +288,8 @@ pub(crate) fn put_recipe<P: Lendable>(
         return Ok(false);
     }
     let wide = width as usize;
-    let mut between = copies(alloc, (rows + beyond) as usize * wide, top)?;
+    let held = (rows + beyond).min(height);
+    let mut between = copies(alloc, held as usize * wide, top)?;
     let mut room = copies(alloc, 6 * (wide + 255) + together as usize * wide, top)?;
     let lent = Lent::new(width, height, whole_frame(width, height), samples);
     put_all(

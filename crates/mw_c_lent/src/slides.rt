@@ -114,11 +114,18 @@ fn rectangle(slide: Slide) -> OffsetBox
     }
 }
 
-/// How many rows of room the rectangle of an extremum makes use of beside six lines.
-pub(crate) fn rows_of_room(slide: Slide) -> u32
+/// How many rows of room the rectangle of an extremum makes use of beside six lines, in a frame of so many rows: of the rectangle
+/// those count alone that the frame may have.
+pub(crate) fn rows_of_room(slide: Slide, height: u32) -> u32
     ensures { result ≤ 260 }
 {
-    rows_of_sheet(rectangle(slide))
+    let offsets = rectangle(slide);
+    let far = height.min(LONGEST as u32) as i32;
+    rows_of_sheet(OffsetBox {
+        y0: offsets.y0.max(1 - far),
+        y1: offsets.y1.min(far - 1),
+        ..offsets
+    })
 }
 
 /// What two rules make one after the other, if both are made here.

@@ -1,7 +1,7 @@
 //! Rows of what a first step makes, which stand in a buffer for the step that looks at them. The buffer slides down the image: rows
 //! that the next strip looks at as well are moved to its front, and those alone are made that are lacking.
 
-ghost use Rattle.std.specs.Prelude.{◌≡◌, ◌+◌, ◌-◌, ◌*◌, ◌<◌, ◌≤◌, length, map};
+ghost use Rattle.std.specs.Prelude.{◌≡◌, ◌+◌, ◌-◌, ◌*◌, ◌<◌, ◌≤◌, length, map, min};
 ghost use Rattle.mw_model.specs.Pictures.{Picture, sample};
 ghost use Rattle.mw_model.specs.Tasks.{cells_in};
 ghost use Rattle.mw_grid.specs.Rectangles.{whole_frame};
@@ -104,7 +104,7 @@ pub(crate) fn stand<P: Lendable>(
     requires behind { standing.from ≤ seen_from maker.first.reach strip }
     requires joined { seen_from maker.first.reach strip ≤ standing.to }
     requires held { (standing.to - standing.from) * strip.width ≤ length between.old }
-    requires between { (strip.height + (maker.first.reach.up + maker.first.reach.down)) * strip.width ≤ length between.old }
+    requires between { min (strip.height + (maker.first.reach.up + maker.first.reach.down)) lent.now.frame_height * strip.width ≤ length between.old }
     requires lines { 6 * (strip.width + 255) ≤ length room.old }
     requires stands { HasMadeRows P.level lent.now maker.first.slide (P.level maker.top) standing.from standing.to between.old }
     ensures between { length between.new ≡ length between.old }

@@ -1,7 +1,7 @@
 //! One strip of an opening or a closing by full rectangles, written into the caller's rows. The rows of the first step that the second
 //! looks at stand in a buffer, where they are in the cache when it reads them.
 
-ghost use Rattle.std.specs.Prelude.{◌≡◌, ◌+◌, ◌*◌, ◌≤◌, length, map};
+ghost use Rattle.std.specs.Prelude.{◌≡◌, ◌+◌, ◌*◌, ◌≤◌, length, map, min};
 ghost use Rattle.mw_model.specs.Pictures.{Picture, sample};
 ghost use Rattle.mw_model.specs.Tasks.{cells_in};
 ghost use Rattle.mw_grid.specs.Rectangles.{whole_frame};
@@ -35,7 +35,7 @@ pub(crate) fn put_second<P: Lendable>(
     requires sound { AreSteps job.steps }
     requires whole { lent.now.place ≡ whole_frame lent.now.frame_width lent.now.frame_height }
     requires strip { AreFrameRows strip lent.now.frame_width lent.now.frame_height }
-    requires between { (strip.height + (job.steps.reach.up + job.steps.reach.down)) * strip.width ≤ length between.now }
+    requires between { min (strip.height + (job.steps.reach.up + job.steps.reach.down)) lent.now.frame_height * strip.width ≤ length between.now }
     requires lines { 6 * (strip.width + 255) ≤ length room.old }
     requires room { length out.old ≡ strip.height * strip.width }
     requires stands { HasRowsAround P.level lent.now job.steps.first job.steps.reach (P.level job.top) strip between.now }

@@ -7,10 +7,10 @@ use Rattle.mw_c_arrays.specs.Sources.{IsArrayImage, array_sample_count, picture_
 use Rattle.mw_c_arrays.proofs.SourceImages.{source_image, source_samples}
 use Rattle.mw_c_lent.specs.declared.rules.Rule.{Rule}
 use Rattle.mw_c_lent.specs.declared.rules.Rule.TheVariants as rules
-use Rattle.mw_c_strips.specs.Forms.{IsSlide}
-use Rattle.mw_c_strips.specs.Layers.{rule_picture}
-use Rattle.mw_c_strips.specs.Parts.{refilled}
-use Rattle.mw_c_strips.proofs.OriginImages.{rule_image}
+use Rattle.mw_c_forms.specs.Forms.{IsSlide}
+use Rattle.mw_c_layers.specs.Layers.{rule_picture}
+use Rattle.mw_c_strips.specs.Refilled.{refilled}
+use Rattle.mw_c_layers.proofs.OriginImages.{rule_image}
 
 -- so many samples fill the sides
 pub fills : (f : ArrayImage) → IsArrayImage f → array_sample_count f ≡ (picture_in f).height * (picture_in f).width

@@ -12,7 +12,7 @@ use Rattle.mw_model.specs.Pictures.{Picture, picture, sample}
 use Rattle.mw_model.specs.Tasks.{cells_in}
 use Rattle.mw_pixel.specs.mw_pixel_words.Packed.{bit_of, stride_of, samples_of, IsPacked}
 use Rattle.mw_pixel.proofs.mw_pixel_words.Bits.{bit_of_its_word, bit_of_word, length-samples_of, rows_fit, sample_is_bit, samples_are_bits}
-use Rattle.mw_c_strips.specs.Parts.{IsStrip}
+use Rattle.mw_c_layers.specs.Parts.{IsStrip}
 use Rattle.mw_c_lent.proofs.Rows.{rows_are}
 
 -- the first rows, and those of the strip behind them

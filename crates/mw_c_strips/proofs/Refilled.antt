@@ -9,7 +9,7 @@ use Rattle.mw_c_arrays.specs.declared.sources.ArrayImage.{ArrayImage}
 use Rattle.mw_c_arrays.specs.declared.sources.ArrayImage.TheVariants as source
 use Rattle.mw_c_arrays.specs.Arrays.{pixels_in_bytes, set_in_bytes, set_picture}
 use Rattle.mw_c_arrays.specs.Sources.{picture_in}
-use Rattle.mw_c_strips.specs.Parts.{refilled}
+use Rattle.mw_c_strips.specs.Refilled.{refilled}
 
 pub map_itself : (xs : List ℕ) → map (λ (s : ℕ). s) xs ≡ xs
 map_itself [] = refl

@@ -8,10 +8,10 @@ use Rattle.mw_model.specs.declared.offsets.Rect.{Rect}
 use Rattle.mw_model.specs.Pictures.{Picture}
 use Rattle.mw_c_arrays.specs.declared.sources.ArrayImage.{ArrayImage}
 use Rattle.mw_c_arrays.specs.Sources.{IsArrayImage, array_sample_count, picture_in}
-use Rattle.mw_c_strips.specs.Parts.{IsStrip}
+use Rattle.mw_c_layers.specs.Parts.{IsStrip}
 use Rattle.mw_c_strips.specs.Rows.{AreRows, EndAt, are_rows, fill_rows, rows_from}
 use Rattle.mw_c_strips.proofs.Filtered.{fills}
-use Rattle.mw_c_strips.proofs.Formulas.{HasSides}
+use Rattle.mw_c_layers.proofs.Formulas.{HasSides}
 
 no_product : (w : ℕ) → 0 * w ≡ 0
 no_product w = omega arith

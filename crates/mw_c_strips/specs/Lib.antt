@@ -1,6 +1,2 @@
-pub mod Boxes
-pub mod Forms
-pub mod Layers
-pub mod Origins
-pub mod Parts
+pub mod Refilled
 pub mod Rows

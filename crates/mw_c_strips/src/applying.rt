@@ -7,22 +7,34 @@ ghost use Rattle.mw_model.specs.Laws.{SameShape};
 ghost use Rattle.mw_plan.specs.Steps.{last_plane};
 ghost use Rattle.mw_c_arrays.specs.Sources.{IsArrayImage, array_sample_count, picture_in};
 ghost use Rattle.mw_c_lent.specs.Recipes.{AreTwoSteps};
-ghost use Rattle.mw_c_strips.specs.Forms.{IsForm, IsSlide, form_picture, is_strip_plan, rest_picture};
-ghost use Rattle.mw_c_strips.specs.Layers.{layer_picture, origin_of, rule_picture};
-ghost use Rattle.mw_c_strips.specs.Origins.{IsOrigin};
+ghost use Rattle.mw_plan.specs.Forms.{is_strip_plan};
+ghost use Rattle.mw_c_forms.specs.Forms.{IsForm, IsSlide, form_picture, rest_picture};
+ghost use Rattle.mw_c_layers.specs.Layers.{layer_picture, origin_of, rule_picture};
+ghost use Rattle.mw_c_layers.specs.Origins.{IsOrigin};
 
 use crate::Sample;
 use crate::cuts::are_by_strips;
-use crate::forms::{Form, Rest, form_of};
 use crate::gathering::{levels_made, set_made};
-use crate::layers::{Formula, Layer};
-use crate::origins::{Origin, is_set};
 use crate::writing::write_all;
 use mw_c_arrays::ArrayImage;
+use mw_c_forms::{Form, Rest, form_of};
+use mw_c_layers::{Formula, Layer, Origin};
 use mw_c_lent::{Rule, put_difference, put_two_steps, put_what_is_added, put_what_is_taken};
 use mw_model::NoMemory;
 use mw_plan::Plan;
 use std::alloc::Global;
+
+/// Whether it is a set.
+fn is_set(f: ArrayImage<'_>) -> bool
+    ensures set { result ≡ true → (picture_in f.entry).kind ≡ kind.Bit }
+    ensures grey { result ≡ false → (picture_in f.entry).kind ≡ kind.Grey }
+{
+    match f {
+        ArrayImage::Grey8(_) => false,
+        ArrayImage::Grey16(_) => false,
+        ArrayImage::Pixels(_) => true,
+    }
+}
 
 /// Writes what one rule makes.
 fn one<P: Sample>(
@@ -289,24 +301,22 @@ fn write_form<P: Sample>(
     }
 }
 
-/// Writes what a plan makes of an image, if it is one that is made by strips. Says whether it did: where not, it writes nothing.
+/// Writes what a plan makes of an image, which is one that can be made by strips.
 pub fn write_plan<P: Sample>(
     alloc: Global,
     plan: &Plan,
     f: ArrayImage<'_>,
     out: &mut [P],
-) -> Result<bool, NoMemory>
+) -> Result<(), NoMemory>
     requires sound { IsArrayImage f }
+    requires strips { is_strip_plan plan.now ≡ true }
     requires room { length out.old ≡ array_sample_count f }
     requires stands { P.stands (last_plane plan.now (picture_in f)).maxval }
-    ensures made { IfOk result (λ done. done ≡ true → map P.level out.new ≡ (last_plane plan.now (picture_in f.entry)).samples) }
-    ensures taken { IfOk result (λ done. done ≡ is_strip_plan plan.now) }
-    ensures left_out { IfOk result (λ done. done ≡ false → out.new ≡ out.old) }
+    ensures made { IfOk result (λ _. map P.level out.new ≡ (last_plane plan.now (picture_in f.entry)).samples) }
     ensures kept { IfErr result (λ _. out.new ≡ out.old) }
 {
-    let Some(form) = form_of(plan) else {
-        return Ok(false);
-    };
-    write_form(alloc, form, f, out)?;
-    Ok(true)
+    match form_of(plan) {
+        Some(form) => write_form(alloc, form, f, out),
+        None => unreachable!(),
+    }
 }

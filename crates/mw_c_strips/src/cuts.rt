@@ -2,13 +2,12 @@
 
 ghost use Rattle.std.specs.Prelude.{◌≡◌, ◌+◌, ◌<◌, ◌≤◌};
 ghost use Rattle.mw_model.specs.Pictures.{Picture};
-ghost use Rattle.mw_c_strips.specs.Parts.{IsStrip};
+ghost use Rattle.mw_c_layers.specs.Parts.{IsStrip};
 
-use crate::boxes::{columns, rows};
-use crate::layers::{Formula, Layer, origin_of};
-use crate::origins::Origin;
 use mw_c_arrays::ArrayImage;
+use mw_c_layers::{Formula, Layer, Origin, origin_of};
 use mw_c_lent::Rule;
+use mw_c_places::{columns, rows};
 use mw_element::Element;
 use mw_model::{OffsetBox, Rect};
 use std::alloc::Global;

@@ -5,14 +5,12 @@ ghost use Rattle.mw_model.specs.declared.shapes.Kind.TheVariants as kind;
 ghost use Rattle.mw_pixel.specs.Images.{set_of};
 ghost use Rattle.mw_pixel.specs.mw_pixel_words.Packed.{samples_of, IsPacked};
 ghost use Rattle.mw_c_arrays.specs.Sources.{IsArrayImage, picture_in};
-ghost use Rattle.mw_c_strips.specs.Layers.{rule_picture};
+ghost use Rattle.mw_c_layers.specs.Layers.{rule_picture};
 
 use crate::Sample;
 use crate::cuts::{ask_once, rows_of_layer, strip_from};
-use crate::layers::Layer;
-use crate::origins::Origin;
-use crate::strips::by_rule;
 use mw_c_arrays::ArrayImage;
+use mw_c_layers::{Layer, Origin, by_rule};
 use mw_c_lent::Rule;
 use mw_model::NoMemory;
 use mw_pixel::words::stride;

@@ -3,28 +3,24 @@
 //! frame of words of 64 pixels; a frame of levels only where it is small, or where the element has so many rows that strips would
 //! take more. An operator of a single step makes any rows of its result alone.
 //!
+//! `mw_c_forms` tells what a plan makes, `mw_c_layers` makes the strips, and `mw_c_places` those for which memory is refused, place by
+//! place; here frames are cut into strips, and these written. Kernels of rows that stand (`mw_c_lent`) come first where there are some.
+//!
 //! ```text
 //! let f = ArrayImage::Grey8(Grey8 { samples: &bytes, width: 640, height: 480, maxval: 255 });
-//! if write_plan(alloc, &plan, f, &mut out)? { .. }      // what the plan makes of it stands
+//! write_plan(alloc, &plan, f, &mut out)?;      // what the plan makes of it stands
 //! // rows 100 to 199 of it, as one of several threads makes them
-//! if write_plan_rows(alloc, &plan, f, 100, &mut out[64000..128000])? { .. }
+//! write_plan_rows(alloc, &plan, f, 100, &mut out[64000..128000])?;
 //! ```
 #![tactic(auto)]
 
 mod applying;
 mod applying_rows;
-mod boxes;
 mod by_pixel;
 mod cuts;
-mod forms;
 mod gathering;
-mod layers;
-mod origins;
 mod room;
-mod rows;
 mod samples;
-mod strips;
-mod windows;
 mod writing;
 
 pub use applying::write_plan;

@@ -4,7 +4,7 @@ ghost use Rattle.std.specs.Prelude.{◌≡◌, ◌≤◌, length, map};
 ghost use Rattle.mw_model.specs.declared.shapes.Kind.TheVariants as kind;
 ghost use Rattle.mw_model.specs.Pictures.{IsImage, Picture};
 ghost use Rattle.mw_c_arrays.specs.Sources.{IsArrayImage, picture_in};
-ghost use Rattle.mw_c_strips.specs.Parts.{refilled};
+ghost use Rattle.mw_c_strips.specs.Refilled.{refilled};
 
 use mw_c_arrays::{ArrayImage, Grey8, Grey16, Set, put_bytes, put_words};
 use mw_c_lent::Lendable;

@@ -4,19 +4,17 @@ ghost use Rattle.std.specs.Prelude.{◌≡◌, ℕ, ◌+◌, ◌*◌, ◌<◌, �
 ghost use Rattle.mw_model.specs.Pictures.{Picture};
 ghost use Rattle.mw_c_arrays.specs.Sources.{IsArrayImage, picture_in};
 ghost use Rattle.mw_c_lent.specs.InPlace.{AreMiddleRows};
-ghost use Rattle.mw_c_strips.specs.declared.origins.Origin.TheVariants.{Array};
-ghost use Rattle.mw_c_strips.specs.declared.layers.Layer.TheVariants.{By};
-ghost use Rattle.mw_c_strips.specs.declared.layers.Formula.TheVariants.{One};
-ghost use Rattle.mw_c_strips.specs.Layers.{IsFormula, first_origin, formula_picture, rule_picture};
-ghost use Rattle.mw_c_strips.specs.Parts.{HasImageRows, IsStrip, part_of};
+ghost use Rattle.mw_c_layers.specs.declared.origins.Origin.TheVariants.{Array};
+ghost use Rattle.mw_c_layers.specs.declared.layers.Layer.TheVariants.{By};
+ghost use Rattle.mw_c_layers.specs.declared.layers.Formula.TheVariants.{One};
+ghost use Rattle.mw_c_layers.specs.Layers.{IsFormula, first_origin, formula_picture, rule_picture};
+ghost use Rattle.mw_c_layers.specs.Parts.{HasImageRows, IsStrip, part_of};
 ghost use Rattle.mw_c_strips.specs.Rows.{AreRows, EndAt, rows_from};
 
 use crate::Sample;
 use crate::by_pixel::level_at;
 use crate::cuts::{ask_once, rows_of, strip_from};
-use crate::layers::{Formula, Layer, origin_of};
-use crate::origins::Origin;
-use crate::strips::strip_of;
+use mw_c_layers::{Formula, Layer, Origin, origin_of, strip_of};
 use mw_c_lent::{Middle, middle_of, put_middle};
 use mw_model::{NoMemory, Rect};
 use mw_pixel::Image;

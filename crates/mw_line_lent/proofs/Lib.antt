@@ -1,6 +1,7 @@
 -- the crate's own
 mod Bests
 mod Columns
+mod Subtracted
 mod Puts
 mod LineCells
 mod Near

@@ -1,5 +1,5 @@
 -- Lines, of which the part is written that the view's place has.
-use Rattle.std.proofs.Common.{◌≡◌, ℕ, ◌+◌, ◌-◌, ◌*◌, ◌<◌, ◌≤◌, pos, ◌+ℤ◌, List, length, get_or, inl, inr, refl, ap, sym, subst, arith, ◌∙◌}
+use Rattle.std.proofs.Common.{◌≡◌, ◌⊎◌, ℕ, ◌+◌, ◌-◌, ◌*◌, ◌<◌, ◌≤◌, pos, ◌+ℤ◌, List, length, get_or, inl, inr, refl, ap, sym, subst, arith, ◌∙◌}
 use Rattle.std.proofs.lemmas.Bool.{cases_lt}
 use Rattle.mw_model.specs.Windows.{View}
 use Rattle.mw_line.specs.Cells.{merged_cell}
@@ -8,7 +8,7 @@ use Rattle.mw_line_lent.specs.declared.boxes.Boxes.{Boxes}
 use Rattle.mw_line_lent.specs.declared.boxes.Part.{Part}
 use Rattle.mw_line_lent.specs.Bests.{IsBest}
 use Rattle.mw_line_lent.specs.Parts.{IsOverlap}
-use Rattle.mw_line_lent.specs.Boxes.{HasLine, IsBlank, IsPutAt, IsPutInRows, wide_of}
+use Rattle.mw_line_lent.specs.Boxes.{HasLine, HasLines, IsBlank, IsPutAt, IsPutInRows, wide_of}
 use Rattle.mw_line_lent.proofs.Bests.{best_at, best_same}
 use Rattle.mw_line_lent.proofs.Puts.{rows_le}
 use Rattle.mw_line_lent.proofs.Columns.{column_best, column_shown, no_column_best}
@@ -71,6 +71,29 @@ line_made f laws n w b y q at cells at-is some lt across blank made = subst (λ 
 pub blank_first : {A : Type 0} (n : A) (b : Boxes) (cells : List A) → length cells ≡ 4 * wide_of b → ((p : ℕ) → get_or cells p n ≡ n) → IsBlank n b cells
 blank_first n b cells size all = record { size = size; before = λ r x lt early. all (r * wide_of b + x); after = λ r x lt late across. all (r * wide_of b + x) }
 
+-- a line is neutral beside its part, where its first cells and its last ones were written
+pub line_begun : {A : Type 0} (n : A) (wide behind end q r x : ℕ) (old mid new : List A) → behind ≤ end → IsPutAt (q * wide) behind old mid → ((i : ℕ) → i < behind → get_or mid (q * wide + i) n ≡ n) → IsPutAt (q * wide + end) (wide - end) mid new
+    → ((i : ℕ) → i < wide - end → get_or new (q * wide + end + i) n ≡ n) → r < q + 1 → x < wide → (x < behind) ⊎ (end ≤ x) → (r < q → get_or old (r * wide + x) n ≡ n) → get_or new (r * wide + x) n ≡ n
+line_begun n wide behind end q r x old mid new le first first-made last last-made lt across side before = elim (cases_lt r q) [
+  | inl above ↦
+      let more = rows_le (r + 1) q wide (omega (arith, above)) in
+      let place : r * wide + x < q * wide = omega (arith, more, next r wide, across) in
+      last.before (r * wide + x) n (omega (arith, place)) ∙ first.before (r * wide + x) n place ∙ before above
+  | inr not_above ↦
+      let same : q * wide ≡ r * wide = ap (λ (t : ℕ). t * wide) (omega (arith, not_above, lt)) in
+      elim side [
+        | inl early ↦
+            let place : q * wide + x ≡ r * wide + x = omega (arith, same) in
+            subst (λ (p : ℕ). get_or new p n ≡ n) place (last.before (q * wide + x) n (omega (arith, early, le)) ∙ first-made x early)
+        | inr late ↦
+            let place : q * wide + end + (x - end) ≡ r * wide + x = omega (arith, same, late) in
+            subst (λ (p : ℕ). get_or new p n ≡ n) place (last-made (x - end) (omega (arith, late, across)))
+      ]
+]
+  where
+    next : (a m : ℕ) → (a + 1) * m ≡ a * m + m
+    next a m = omega arith
+
 -- what was written in the parts of some lines lies beside the neutral cells
 pub blank_kept_in_rows : {A : Type 0} (n : A) (b : Boxes) (rows : ℕ) (old new : List A) → b.part.behind + b.part.count ≤ wide_of b → IsBlank n b old → IsPutInRows rows b.part.behind b.part.count (wide_of b) old new → IsBlank n b new
 blank_kept_in_rows n b rows old new fits blank put = record {
@@ -120,3 +143,22 @@ column_of_rows f n w b y long r seen samples stride from i best samples-is strid
     (column_shown f n w b.column b.row (wide_of b) y long (b.part.behind + i) from r (r + b.down) b.part seen best size across rows first fits (omega arith) (omega (arith, lt)) (from-is ∙ ap (λ (t : ℕ). seen.ahead * t + b.part.ahead) stride-is)
     (best_same f (λ j. f n (get_or samples (from + j * stride + i) n)) (λ j. f n (get_or w.cells (from + j * w.place.width + (b.part.behind + i - b.part.behind)) n)) r (r + b.down) best
     (λ j low high. same_reads f n w b seen samples stride from i j samples-is stride-is) is))
+
+-- some lines, where the place has all rows of their boxes
+pub lines_of_rows : {A : Type 0} (f : A → A → A) → IsExtremum f → (n : A) (w : View A) (b : Boxes) (y rows long : ℕ) (seen : Part) (samples : List A) (stride from : ℕ) (cells : List A) → rows ≤ 4 → samples ≡ w.cells → stride ≡ w.place.width
+    → from ≡ seen.ahead * stride + b.part.ahead → length w.cells ≡ w.place.height * w.place.width → IsOverlap b.column (wide_of b) w.place.width b.part → IsOverlap (b.row +ℤ pos y) long w.place.height seen → seen.behind ≡ 0 → b.down + rows ≤ seen.count + 1 → 0 < b.down
+    → IsBlank n b cells → ((r i : ℕ) → r < rows → i < b.part.count → IsBest f (λ j. f n (get_or samples (from + j * stride + i) n)) r (r + b.down) (get_or cells (b.part.behind + r * wide_of b + i) n)) → HasLines f n w b y rows cells
+lines_of_rows f laws n w b y rows long seen samples stride from cells four samples-is stride-is from-is size across shown first fits some blank made r few =
+    line_made f laws n w b (y + r) r (r * wide_of b) cells refl some (omega (arith, few, four)) across blank
+    (λ i lt.
+    let place : b.part.behind + r * wide_of b + i ≡ r * wide_of b + b.part.behind + i = omega arith in
+    subst (λ (t : ℕ). IsBest f (merged_cell f n w b.column b.row (b.part.behind + i)) (y + r) (y + r + b.down) (get_or cells t n)) place
+    (column_of_rows f n w b y long r seen samples stride from i _ samples-is stride-is from-is size across shown first (omega (arith, few, fits)) lt (made r i few lt)))
+
+-- one line alone
+pub lines_alone : {A : Type 0} (f : A → A → A) (n : A) (w : View A) (b : Boxes) (y : ℕ) (cells : List A) → HasLine f n w b y 0 cells → HasLines f n w b y 1 cells
+lines_alone f n w b y cells line r lt =
+    let one : r ≡ 0 = omega (arith, lt) in
+    let row : y + 0 ≡ y = omega arith in
+    let start : 0 * wide_of b ≡ 0 = omega arith in
+    subst (λ (t : ℕ). HasLine f n w b (y + t) (t * wide_of b) cells) (sym one) (subst (λ (t : ℕ). HasLine f n w b t (0 * wide_of b) cells) (sym row) (subst (λ (t : ℕ). HasLine f n w b y t cells) (sym start) line))

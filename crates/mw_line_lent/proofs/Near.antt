@@ -1,5 +1,5 @@
 -- Boxes at the places of a tile: those of a tile that stands in what is lent are made, and what they make is the extremum.
-use Rattle.std.proofs.Common.{◌≡◌, ℕ, ◌+◌, ◌-◌, ◌*◌, ◌<◌, ◌≤◌, ℤ, pos, negsuc, ◌+ℤ◌, ◌-ℤ◌, ◌≤ℤ◌, List, length, get_or, refl, ap, sym, arith, ◌∙◌, inl, inr}
+use Rattle.std.proofs.Common.{◌≡◌, ℕ, ◌+◌, ◌-◌, ◌*◌, ◌<◌, ◌≤◌, ℤ, pos, negsuc, ◌+ℤ◌, ◌-ℤ◌, ◌<ℤ◌, ◌≤ℤ◌, List, length, get_or, refl, ap, sym, arith, ◌∙◌, inl, inr}
 use Rattle.std.proofs.lemmas.Bool.{cases_lt}
 use Rattle.std.proofs.lemmas.Int.{ints}
 use Rattle.mw_model.specs.declared.offsets.OffsetBox.{OffsetBox}
@@ -96,3 +96,10 @@ boxes_made f laws n w place box tile b out is across down of size made =
     ap (λ (t : ℕ). get_or out (y * t + x) n) (sym of.width)
     ∙ made x y (omega (arith, less, of.width)) (omega (arith, row_less, of.height))
     ∙ tile_cell f laws n w box tile place box.x0 box.x1 box.y0 box.y1 of.ahead b.across of.above b.down known across down b.column b.row of.column of.row x y less row_less)
+
+-- a short side of a box is seen in no more places
+pub side_short : (tile side first len : ℕ) (a b : ℤ) (skipped count n : ℕ) → IsSeenSide tile side first len a b skipped count → a ≤ℤ pos 0 → pos 0 ≤ℤ b → (b -ℤ a) <ℤ pos n → n < count → ⊥
+side_short tile side first len a b skipped count n seen left right short more =
+    let size = nonnegative_is (b -ℤ a +ℤ pos 1) in
+    let within = seen.within (omega (arith, more)) in
+    omega (arith, ints, within, size, left, right, short, more)

@@ -1,8 +1,8 @@
 -- Lanes of vectors: what is loaded, stored, and the lesser and the greater of each pair.
-use Rattle.std.proofs.Common.{◌≡◌, ℕ, zero, suc, ◌+◌, ◌-◌, ◌^◌, ◌<◌, ◌≤◌, min, max, cond, ltb, List, [], ◌∷◌, length, get_or, take, drop, map, replicate, refl, ap, sym, arith, ◌∙◌, length-take, length-drop}
+use Rattle.std.proofs.Common.{◌≡◌, ℕ, zero, suc, ◌+◌, ◌-◌, ◌%◌, ◌^◌, ◌<◌, ◌≤◌, min, max, cond, ltb, List, [], ◌∷◌, length, get_or, take, drop, map, replicate, refl, ap, sym, arith, ◌∙◌, length-take, length-drop}
 use Rattle.std.proofs.lemmas.List.{get_or-take, get_or-drop, get_or_default, length-replicate}
 use Rattle.std.proofs.lemmas.Simd.{tops_compared, put_chunk_whole, length-zip2, get_or-chunk, length-chunk}
-use Rattle.std.specs.Int.{Width}
+use Rattle.std.specs.Int.{Width, w8, w16}
 use mir.Val.{bits, hbits}
 use Rattle.mw_model.proofs.mw_facts.Elements.{get_or-replicate_same}
 use Rattle.mw_model.proofs.mw_facts.Numbers.{cond-min, cond-max}
@@ -75,3 +75,27 @@ stored_behind n out lanes at p d fits long le =
 
 pub filled_lane : (n k i : ℕ) → i < n → get_or (replicate n k) i 0 ≡ k
 filled_lane n k i lt = get_or_default (replicate n k) i 0 k (omega (arith, length-replicate n k)) ∙ get_or-replicate_same n i k
+
+wrapped_8 : (x y : ℕ) → x < 256 → y < 256 → (max x y + (256 - y)) % 256 ≡ x - y
+wrapped_8 x y p q = omega arith
+
+wrapped_16 : (x y : ℕ) → x < 65536 → y < 65536 → (max x y + (65536 - y)) % 65536 ≡ x - y
+wrapped_16 x y p q = omega arith
+
+pub less_lane_8 : (xs ys : List ℕ) (i : ℕ) → length xs ≡ 32 → length ys ≡ 32 → get_or xs i 0 < 256 → get_or ys i 0 < 256
+    → get_or (zip2 (λ (x y : ℕ). (x + (256 - y)) % 256) (higher_of w8 xs ys) ys) i 0 ≡ get_or xs i 0 - get_or ys i 0
+less_lane_8 xs ys i xs-long ys-long xs-fit ys-fit =
+    lane_paired (λ (x y : ℕ). (x + (256 - y)) % 256) (higher_of w8 xs ys) ys i refl (higher_long w8 xs ys 32 xs-long ys-long ∙ sym ys-long)
+    ∙ ap (λ (t : ℕ). (t + (256 - get_or ys i 0)) % 256) (higher_lane w8 xs ys i 32 xs-long ys-long)
+    ∙ wrapped_8 (get_or xs i 0) (get_or ys i 0) xs-fit ys-fit
+
+pub less_lane_16 : (xs ys : List ℕ) (i : ℕ) → length xs ≡ 16 → length ys ≡ 16 → get_or xs i 0 < 65536 → get_or ys i 0 < 65536
+    → get_or (zip2 (λ (x y : ℕ). (x + (65536 - y)) % 65536) (higher_of w16 xs ys) ys) i 0 ≡ get_or xs i 0 - get_or ys i 0
+less_lane_16 xs ys i xs-long ys-long xs-fit ys-fit =
+    lane_paired (λ (x y : ℕ). (x + (65536 - y)) % 65536) (higher_of w16 xs ys) ys i refl (higher_long w16 xs ys 16 xs-long ys-long ∙ sym ys-long)
+    ∙ ap (λ (t : ℕ). (t + (65536 - get_or ys i 0)) % 65536) (higher_lane w16 xs ys i 16 xs-long ys-long)
+    ∙ wrapped_16 (get_or xs i 0) (get_or ys i 0) xs-fit ys-fit
+
+pub less_long : (less : ℕ → ℕ → ℕ) (w : Width) (xs ys : List ℕ) (n : ℕ) → length xs ≡ n → length ys ≡ n → length (zip2 less (higher_of w xs ys) ys) ≡ n
+less_long less w xs ys n xs-long ys-long =
+    length-zip2 less (higher_of w xs ys) ys (higher_long w xs ys n xs-long ys-long ∙ sym ys-long) ∙ higher_long w xs ys n xs-long ys-long

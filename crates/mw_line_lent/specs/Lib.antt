@@ -3,3 +3,4 @@ pub mod Parts
 pub mod Boxes
 pub mod Near
 pub mod Sheets
+pub mod Differences

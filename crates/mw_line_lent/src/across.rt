@@ -18,7 +18,11 @@ pub(crate) struct Taps {
 /// The extremum of the taps at each of the places from `at` on. Where the line has windows of `step` values, these are windows of
 /// `last` values more.
 #[inline(always)]
-fn best_of_taps<P: Laned, E: LanedExtremum<P>>(line: &[P], taps: Taps, at: usize) -> P::Vector
+pub(crate) fn best_of_taps<P: Laned, E: LanedExtremum<P>>(
+    line: &[P],
+    taps: Taps,
+    at: usize,
+) -> P::Vector
     requires joined { taps.last ≤ taps.count * taps.step }
     requires near { (taps.count - 1) * taps.step ≤ taps.last }
     requires inside { taps.from + at + taps.last + P.WIDTH ≤ length line.now }
@@ -60,7 +64,7 @@ fn put_taps<P: Laned, E: LanedExtremum<P>>(
 
 /// The same taps, with a step and a count that the compiler knows where they are called by numbers: it unrolls the loop over them.
 #[inline(always)]
-fn by_numbers(taps: Taps, step: usize, count: usize) -> Taps
+pub(crate) fn by_numbers(taps: Taps, step: usize, count: usize) -> Taps
     requires step { taps.step ≡ step }
     requires count { taps.count ≡ count }
     ensures { result ≡ taps }

@@ -15,6 +15,53 @@ pub(crate) struct Lines {
     pub wide: usize,
 }
 
+/// A vector of the extrema of these rows, and one of those of as many from the second one on.
+#[inline(always)]
+pub(crate) fn two_of_rows<P: Laned, E: LanedExtremum<P>>(
+    rows: Rows<P>,
+    from: usize,
+    neutral: P,
+) -> (P::Vector, P::Vector)
+    requires some { 2 ≤ rows.count }
+    requires inside { rows.from + rows.count * rows.stride + from + P.WIDTH ≤ length rows.samples.now }
+    ensures first { (i : ℕ) (d : P) → i < P.WIDTH → IsBest E.merge (λ j. E.merge neutral (slice_index_or rows.entry.samples.now (rows.entry.from + j * rows.entry.stride + (from + i)) d)) 0 rows.entry.count (P.lane result.0 i) }
+    ensures second { (i : ℕ) (d : P) → i < P.WIDTH → IsBest E.merge (λ j. E.merge neutral (slice_index_or rows.entry.samples.now (rows.entry.from + j * rows.entry.stride + (from + i)) d)) 1 (1 + rows.entry.count) (P.lane result.1 i) }
+{
+    let shared = Rows {
+        samples: rows.samples,
+        from: rows.from + rows.stride,
+        stride: rows.stride,
+        count: rows.count - 1,
+    };
+    let both = best_of_rows::<P, E>(shared, from, neutral);
+    let first = rows.from + from;
+    let upper = E::merged(both, P::load(rows.samples, first));
+    let lower = E::merged(
+        both,
+        P::load(rows.samples, first + rows.count * rows.stride),
+    );
+    (upper, lower)
+}
+
+/// Writes a vector, and another one a line further on.
+#[inline(always)]
+pub(crate) fn store_two<P: Laned>(
+    first: P::Vector,
+    second: P::Vector,
+    out: &mut [P],
+    at: usize,
+    wide: usize,
+)
+    requires room { at + wide + P.WIDTH ≤ length out.old }
+    requires apart { P.WIDTH ≤ wide }
+    ensures put { IsPutInRows 2 at P.WIDTH wide out.old out.new }
+    ensures first { (i : ℕ) (d : P) → i < P.WIDTH → slice_index_or out.new (at + 0 * wide + i) d ≡ P.lane first i }
+    ensures second { (i : ℕ) (d : P) → i < P.WIDTH → slice_index_or out.new (at + 1 * wide + i) d ≡ P.lane second i }
+{
+    P::store(first, out, at);
+    P::store(second, out, at + wide);
+}
+
 /// Writes a vector of two lines: of these rows, and of as many from the second one on.
 #[inline(always)]
 fn put_two_at<P: Laned, E: LanedExtremum<P>>(
@@ -31,22 +78,8 @@ fn put_two_at<P: Laned, E: LanedExtremum<P>>(
     ensures put { IsPutInRows 2 (lines.at + from) P.WIDTH lines.wide out.old out.new }
     ensures made { (r i : ℕ) (d : P) → r < 2 → i < P.WIDTH → IsBest E.merge (λ j. E.merge neutral (slice_index_or rows.entry.samples.now (rows.entry.from + j * rows.entry.stride + (from + i)) d)) r (r + rows.entry.count) (slice_index_or out.new (lines.at + from + r * lines.wide + i) d) }
 {
-    let shared = Rows {
-        samples: rows.samples,
-        from: rows.from + rows.stride,
-        stride: rows.stride,
-        count: rows.count - 1,
-    };
-    let both = best_of_rows::<P, E>(shared, from, neutral);
-    let first = rows.from + from;
-    let at = lines.at + from;
-    let upper = E::merged(both, P::load(rows.samples, first));
-    let lower = E::merged(
-        both,
-        P::load(rows.samples, first + rows.count * rows.stride),
-    );
-    P::store(upper, out, at);
-    P::store(lower, out, at + lines.wide);
+    let (first, second) = two_of_rows::<P, E>(rows, from, neutral);
+    store_two::<P>(first, second, out, lines.at + from, lines.wide);
 }
 
 /// Writes two lines of so many columns.
@@ -99,7 +132,7 @@ pub(crate) fn put_two<P: Laned, E: LanedExtremum<P>>(
 
 /// Writes a vector of four lines: of these rows, and of as many from the second, the third and the fourth one on.
 #[inline(always)]
-fn put_four_at<P: Laned, E: LanedExtremum<P>>(
+pub(crate) fn put_four_at<P: Laned, E: LanedExtremum<P>>(
     rows: Rows<P>,
     from: usize,
     neutral: P,

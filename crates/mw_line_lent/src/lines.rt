@@ -24,7 +24,7 @@ pub(crate) fn fill<P: Pixel>(out: &mut [P], at: usize, n: usize, neutral: P)
 }
 
 /// Writes the line of row y of the boxes, which may have rows that the place has not.
-fn put_line<P: Laned, E: LanedExtremum<P>>(
+pub(crate) fn put_line<P: Laned, E: LanedExtremum<P>>(
     lent: &Lent<P>,
     boxes: Boxes,
     y: usize,

@@ -50,6 +50,24 @@ fn put_all<P: Laned, E: LanedExtremum<P>>(
     }
 }
 
+/// Makes those places of four lines neutral for which the place has no columns. Each line is written in all others.
+fn begin_lines<P: Laned>(boxes: Boxes, neutral: P, lines: &mut [P])
+    requires suited { IsSuited P.WIDTH boxes }
+    requires wide { boxes.width < 2 ^ 32 }
+    requires part { boxes.part.behind + boxes.part.count ≤ wide_of boxes }
+    requires size { length lines.old ≡ 4 * wide_of boxes }
+    ensures { IsBlank neutral boxes lines.new }
+{
+    let wide = boxes.width + (boxes.across - 1);
+    let behind = boxes.part.behind;
+    let end = behind + boxes.part.count;
+    for r in 0..4usize {
+        let at = r * wide;
+        fill(lines, at, behind, neutral);
+        fill(lines, at + end, wide - end, neutral);
+    }
+}
+
 /// Writes all rows, with room for six lines.
 fn put_with_room<P: Laned, E: LanedExtremum<P>>(
     lent: &Lent<P>,
@@ -73,7 +91,7 @@ fn put_with_room<P: Laned, E: LanedExtremum<P>>(
     let wide = boxes.width + (boxes.across - 1);
     let (lines, rest) = room.split_at_mut(4 * wide);
     let (spare, _others) = rest.split_at_mut(2 * wide);
-    fill(lines, 0, 4 * wide, neutral);
+    begin_lines(boxes, neutral, lines);
     put_all::<P, E>(lent, boxes, neutral, lines, spare, out);
 }
 
@@ -129,7 +147,7 @@ fn put_tall_with_room<'a, P: Laned, E: LanedExtremum<P>>(
     let four = 4 * wide;
     let (lines, rest) = room.split_at_mut(four);
     let (spare, _others) = rest.split_at_mut(2 * wide);
-    fill(lines, 0, four, neutral);
+    begin_lines(boxes, neutral, lines);
     let tall = Tall { boxes, blank };
     put_tall::<P, E>(lent, tall, neutral, sheet, lines, spare, out);
 }

@@ -80,6 +80,10 @@ in_rows_one rows at n w r a old mid new lt a-is before put = record {
   ];
 }
 
+-- the rows were written twice
+pub in_rows_twice : {A : Type 0} (rows at n w : ℕ) (old mid new : List A) → IsPutInRows rows at n w old mid → IsPutInRows rows at n w mid new → IsPutInRows rows at n w old new
+in_rows_twice rows at n w old mid new first last = record { size = last.size ∙ first.size; kept = λ p d out_of. last.kept p d out_of ∙ first.kept p d out_of }
+
 -- some columns of the rows were written
 pub in_rows_part : {A : Type 0} (rows at n w from m : ℕ) (old mid new : List A) → from + m ≤ n → IsPutInRows rows at n w old mid → IsPutInRows rows (at + from) m w mid new → IsPutInRows rows at n w old new
 in_rows_part rows at n w from m old mid new fits before put = record {

@@ -17,6 +17,18 @@ both_lanes w Q d at out first second i lt = elim (cases_lt i w) [
       subst (λ (t : ℕ). Q t (get_or out (at + i) d)) here (subst (λ (t : ℕ). Q (w + (i - w)) (get_or out t d)) there (second (i - w) (omega (arith, lt, high))))
 ]
 
+pub four_lanes : {A : Type 0} (w : ℕ) (Q : ℕ → A → Type 0) (d : A) (at : ℕ) (out : List A) → ((i : ℕ) → i < w → Q i (get_or out (at + i) d)) → ((i : ℕ) → i < w → Q (w + i) (get_or out (at + w + i) d))
+    → ((i : ℕ) → i < w → Q (2 * w + i) (get_or out (at + 2 * w + i) d)) → ((i : ℕ) → i < w → Q (2 * w + (w + i)) (get_or out (at + 2 * w + w + i) d)) → (i : ℕ) → i < 4 * w → Q i (get_or out (at + i) d)
+four_lanes w Q d at out first second third fourth i lt = elim (cases_lt i (2 * w)) [
+  | inl low ↦ both_lanes w Q d at out first second i low
+  | inr high ↦
+      let j = i - 2 * w in
+      let here : 2 * w + j ≡ i = omega (arith, high) in
+      let there : at + 2 * w + j ≡ at + i = omega (arith, high) in
+      let behind = both_lanes w (λ i v. Q (2 * w + i) v) d (at + 2 * w) out third fourth j (omega (arith, lt, high)) in
+      subst (λ (t : ℕ). Q t (get_or out (at + i) d)) here (subst (λ (t : ℕ). Q (2 * w + j) (get_or out t d)) there behind)
+]
+
 -- a lane of what is merged of the shared places and then of the rest
 pub lane_split : {A : Type 0} (f : A → A → A) → IsExtremum f → (cells : List A) (n : A) (from place ahead : ℕ) (shared rest all : List ℕ) (start both value : A) → IsCover shared rest all ahead → start ≡ n → both ≡ merged_at f cells n from start shared
     → value ≡ merged_at f cells n place both rest → place ≡ from + ahead → value ≡ merged_at f cells n place n all

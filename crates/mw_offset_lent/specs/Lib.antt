@@ -4,3 +4,4 @@ pub mod Splits
 pub mod Offsets
 pub mod Layouts
 pub mod EdgeCells
+pub mod Counts

@@ -27,6 +27,7 @@ mod shares;
 mod shifts;
 mod strips;
 mod tiles;
+mod wide;
 mod work;
 
 pub use mw_line_lent::{Laned, LanedExtremum, Max, Min};

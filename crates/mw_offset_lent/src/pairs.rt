@@ -7,6 +7,7 @@ ghost use Rattle.mw_offset_lent.specs.Places.{merged_at};
 ghost use Rattle.mw_offset_lent.specs.Splits.{IsSplit};
 
 use crate::blocks::{merge_places, put_block, store_both};
+use crate::wide::put_wide;
 use mw_line_lent::{Laned, LanedExtremum};
 
 /// Places of cells in rows of `wide`, for rows of `width` results: all of them, those that two rows share, and what is left of
@@ -27,9 +28,9 @@ pub(crate) struct Split<'a> {
 
 /// Where two rows of results are written: the second one so many places behind the first.
 #[derive(Clone, Copy)]
-struct Two {
-    at: usize,
-    apart: usize,
+pub(crate) struct Two {
+    pub at: usize,
+    pub apart: usize,
 }
 
 /// Writes a block of each of two rows.
@@ -58,7 +59,7 @@ fn put_two_blocks<P: Laned, E: LanedExtremum<P>>(
     store_both::<P>(lower, out, two.at + two.apart);
 }
 
-/// Writes so many columns of two rows. The last block begins early enough to end with them.
+/// Writes so many columns of two rows, four vectors at a time and then two. The last block begins early enough to end with them.
 #[inline(never)]
 fn put_columns<P: Laned, E: LanedExtremum<P>>(
     cells: &[P],
@@ -77,7 +78,7 @@ fn put_columns<P: Laned, E: LanedExtremum<P>>(
     ensures made { (r i : ℕ) → r < 2 → i < split.entry.width - split.entry.left - split.entry.right → slice_index_or out.new (two.at + r * two.apart + i) neutral ≡ merged_at E.merge cells.now neutral (from + r * split.entry.ahead + i) neutral split.entry.all.now }
 {
     let n = split.width - split.left - split.right;
-    let mut done = 0usize;
+    let mut done = put_wide::<P, E>(cells, split, from, neutral, out, two);
     'by_block: while done < n {
         let column = done.min(n - 2 * P::WIDTH);
         let there = Two {

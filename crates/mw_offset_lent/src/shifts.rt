@@ -11,13 +11,26 @@ pub(crate) struct Shift {
     pub shared: usize,
 }
 
-/// How many of the places have another one so far ahead of them.
+/// The number of the first place, from number `from` on, that is not before this one.
+fn first_from(all: &[usize], from: usize, place: usize) -> usize {
+    for i in from..all.len() {
+        if all[i] >= place {
+            return i;
+        }
+    }
+    all.len()
+}
+
+/// How many of the places have another one so far ahead of them, where they stand in rising order. Any answer is right.
 fn shared_count(all: &[usize], ahead: usize) -> usize
     requires { AllByRecursion (λ p. p + ahead < 2 ^ 64) all.now }
 {
     let mut count = 0usize;
+    let mut at = 0usize;
     for place in all {
-        if all.contains(&(*place + ahead)) {
+        let wanted = *place + ahead;
+        at = first_from(all, at, wanted);
+        if at < all.len() && all[at] == wanted {
             count = count.saturating_add(1);
         }
     }
@@ -31,18 +44,25 @@ fn better(a: Shift, b: Shift) -> Shift
     if b.shared > a.shared { b } else { a }
 }
 
-/// The least shift by which two rows share the most of their places, among cells in rows of `wide`.
-pub(crate) fn best_shift(all: &[usize], wide: usize) -> Shift
+/// Whether what a shift shares more, so many times a row, outweighs the blocks of all places that it costs at the rows' ends.
+fn is_worth(more: usize, blocks: usize, places: usize) -> bool {
+    more.saturating_mul(blocks) > places.saturating_mul(2)
+}
+
+/// The least shift by which two rows share the most of their places, among cells in rows of `wide` that are made in so many blocks, or
+/// none where that gains less than it costs.
+pub(crate) fn best_shift(all: &[usize], wide: usize, blocks: usize) -> Shift
     requires places { AllByRecursion (λ p. p + (wide + 8) < 2 ^ 64) all.now }
     requires wide { 8 ≤ wide }
     requires small { wide < 2 ^ 40 }
     ensures { IsShift result }
 {
-    let mut best = Shift {
+    let none = Shift {
         left: 0,
         right: 0,
         shared: shared_count(all, wide),
     };
+    let mut best = none;
     for columns in 1..9usize {
         let right = Shift {
             left: 0,
@@ -56,5 +76,8 @@ pub(crate) fn best_shift(all: &[usize], wide: usize) -> Shift
         };
         best = better(better(best, right), left);
     }
-    best
+    if is_worth(best.shared.saturating_sub(none.shared), blocks, all.len()) {
+        return best;
+    }
+    none
 }

@@ -49,7 +49,7 @@ fn put_tile<P: Laned, E: LanedExtremum<P>>(
     let all = places.as_slice();
     let inner = there.as_slice();
     let outer = edges.as_slice();
-    let shift = best_shift(all, laid.wide);
+    let shift = best_shift(all, laid.wide, laid.wide / (2 * P::WIDTH));
     let by_cells = shares_of(alloc, all, shift, laid.wide)?;
     let by_rows = shares_of(alloc, inner, shift, stride)?;
     let mut cells = copies(alloc, (laid.most + 2 * around.down) * laid.wide, neutral)?;

@@ -26,6 +26,17 @@ pub(crate) struct Laid {
 /// How many cells are laid out at one time, so that they stay in the processor's cache.
 const CELLS: usize = 131072;
 
+/// How many rows of results are laid out at one time: no more than the tile has.
+fn rows_at_once(wide: usize, down: usize, height: u32) -> usize
+    requires wide { 0 < wide }
+    requires down { down ≤ 64 }
+    ensures some { 0 < result }
+    ensures few { result ≤ 2 ^ 18 }
+{
+    let most = (CELLS / wide).max(32).max(2 * down);
+    most.min(height as usize).max(1)
+}
+
 /// How cells are laid out for a tile.
 pub(crate) fn layout_of(place: Rect, tile: Rect, around: Around) -> Laid
     requires across { around.across ≤ 64 }
@@ -50,7 +61,7 @@ pub(crate) fn layout_of(place: Rect, tile: Rect, around: Around) -> Laid
         row,
         wide,
         part: part_of(column, wide, place.width),
-        most: (CELLS / wide).max(32).max(2 * around.down),
+        most: rows_at_once(wide, around.down, tile.height),
     }
 }
 

@@ -2,6 +2,7 @@ pub mod Faults
 pub mod Seen
 pub mod Asked
 pub mod PlansOf
+pub mod Forms
 pub mod Steps
 pub mod Tables
 -- what lower crates offer

@@ -1,5 +1,5 @@
 -- Plans of one image, and what the steps of flat operators do (own).
-use Rattle.std.specs.Prelude.{ℕ, ◌≡◌, true, false, ◌<◌, ◌≤◌, ◌-◌, List, [], ◌∷◌, length, negsuc, pos, neg_ℤ, ◌≤ℤ◌, slice_index_or}
+use Rattle.std.specs.Prelude.{ℕ, ◌≡◌, Bool, true, false, ◌<◌, ◌≤◌, ◌-◌, List, [], ◌∷◌, length, negsuc, pos, neg_ℤ, ◌≤ℤ◌, slice_index_or}
 use Rattle.std.specs.List.{AllByRecursion}
 use Rattle.mw_model.specs.declared.limits.TheConstants.{STEP_LIMIT}
 use Rattle.mw_model.specs.declared.operations.FlatOp.{FlatOp}
@@ -15,6 +15,7 @@ use Rattle.mw_model.specs.Tasks.{nothing_planned}
 use Rattle.mw_plan.specs.declared.inputs.Input.{Input}
 use Rattle.mw_plan.specs.Asked.{is_element_input}
 use Rattle.mw_plan.specs.PlansOf.{CanBeMade, IsReadBy, planes_read}
+use Rattle.mw_plan.specs.Forms.{is_slide, is_row_plan, is_strip_plan}
 use Rattle.mw_plan.specs.declared.extremum.ExtremumKind.{ExtremumKind}
 use Rattle.mw_plan.specs.declared.extremum.ExtremumKind.TheVariants.{Least, Greatest}
 
@@ -119,6 +120,13 @@ pub record IsChain (extremum : ExtremumKind) (e : List Offset) (plan : Plan) : T
   pub is : plan ≡ of_image first ∷ of_step 0 second ∷ []
   pub acts_first : ActsAs first (sliding extremum e)
   pub acts_second : ActsAs second (sliding (other extremum) (reflected e))
+  pub slides_first : is_slide first ≡ true
+  pub slides_second : is_slide second ≡ true
+
+-- the plan can be made by strips, and whether any rows of it can be made alone is told
+pub record HasForm (rows : Bool) (plan : Plan) : Type 0 where
+  pub strips : is_strip_plan plan ≡ true
+  pub alone : is_row_plan plan ≡ rows
 
 -- an element stands wherever the operation takes one
 abbrev pub HasElements : FlatOp → Input → Input → Type 0

@@ -1,8 +1,9 @@
 //! The least and the greatest, so that what is made by one is made by both in the same way.
 
-ghost use Rattle.std.specs.Prelude.{◌≡◌};
+ghost use Rattle.std.specs.Prelude.{◌≡◌, true};
 ghost use Rattle.std.specs.Arc.{arc_value};
 ghost use Rattle.mw_step_task.specs.Meanings.{meaning};
+ghost use Rattle.mw_plan.specs.Forms.{is_slide};
 ghost use Rattle.mw_plan.specs.Steps.{by_box, by_offsets, other};
 
 use mw_model::OffsetBox;
@@ -31,7 +32,8 @@ impl ExtremumKind {
 
     /// The step that takes it under the element.
     pub(crate) fn by_element(self, element: Arc<Element>) -> Step
-        ensures { meaning result ≡ by_offsets self (arc_value element).offsets }
+        ensures is { meaning result ≡ by_offsets self (arc_value element).offsets }
+        ensures slides { is_slide (meaning result) ≡ true }
     {
         match self {
             ExtremumKind::Least => Step::Erode(element),
@@ -41,7 +43,8 @@ impl ExtremumKind {
 
     /// The step that takes it under all offsets of a box.
     pub(crate) fn by_box(self, offsets: OffsetBox) -> Step
-        ensures { meaning result ≡ by_box self offsets }
+        ensures is { meaning result ≡ by_box self offsets }
+        ensures slides { is_slide (meaning result) ≡ true }
     {
         match self {
             ExtremumKind::Least => Step::ErodeBox(offsets),

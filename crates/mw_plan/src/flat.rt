@@ -3,13 +3,14 @@
 //! An erosion, a dilation, a rank filter and a threshold are one step. An opening and a closing are two: an extremum, and
 //! then the other by the element turned round. A gradient, a top-hat and a hit-or-miss end in a difference.
 
-ghost use Rattle.std.specs.Prelude.{◌≡◌, true, [], ◌∷◌, length, IfOk, None};
+ghost use Rattle.std.specs.Prelude.{◌≡◌, true, false, [], ◌∷◌, length, IfOk, None};
 ghost use Rattle.mw_model.specs.Flat.{minus, rank, threshold};
 ghost use Rattle.mw_step_task.specs.Meanings.{meaning};
 ghost use Rattle.mw_plan.specs.Asked.{IsRefusedBy, fault_in, is_element_input, offsets_of_input};
+ghost use Rattle.mw_plan.specs.Forms.{has_rows, is_row_plan, is_strip_plan};
 ghost use Rattle.mw_plan.specs.PlansOf.{IsPlanOf};
 ghost use Rattle.mw_plan.specs.Seen.{planned};
-ghost use Rattle.mw_plan.specs.Steps.{HasElements, IsChain, Makes, filtering, greater, less, lesser, of_image, operator_of, residue, sliding, step_count};
+ghost use Rattle.mw_plan.specs.Steps.{HasElements, HasForm, IsChain, Makes, filtering, greater, less, lesser, of_image, operator_of, residue, sliding, step_count};
 
 use crate::building::{less, of_image, of_step};
 use crate::extremum::ExtremumKind;
@@ -31,7 +32,8 @@ fn alone(alloc: Global, step: Step) -> Result<Plan, NoMemory>
 /// An erosion or a dilation.
 fn extremum_plan(alloc: Global, extremum: ExtremumKind, b: Input<'_>) -> Result<Plan, NoMemory>
     requires { is_element_input b ≡ true }
-    ensures { IfOk result (Makes 1 (sliding extremum (offsets_of_input b.entry))) }
+    ensures makes { IfOk result (Makes 1 (sliding extremum (offsets_of_input b.entry))) }
+    ensures form { IfOk result (HasForm true) }
 {
     alone(alloc, slide(extremum, b)?)
 }
@@ -52,7 +54,8 @@ fn chain(alloc: Global, room: usize, extremum: ExtremumKind, b: Input<'_>) -> Re
 /// An opening or a closing.
 fn opening_plan(alloc: Global, extremum: ExtremumKind, b: Input<'_>) -> Result<Plan, NoMemory>
     requires { is_element_input b ≡ true }
-    ensures { IfOk result (Makes 2 (filtering extremum (offsets_of_input b.entry))) }
+    ensures makes { IfOk result (Makes 2 (filtering extremum (offsets_of_input b.entry))) }
+    ensures form { IfOk result (HasForm false) }
 {
     chain(alloc, 2, extremum, b)
 }
@@ -70,7 +73,8 @@ fn top_hat_step(extremum: ExtremumKind) -> PlannedStep
 /// A top-hat.
 fn residue(alloc: Global, extremum: ExtremumKind, b: Input<'_>) -> Result<Plan, NoMemory>
     requires { is_element_input b ≡ true }
-    ensures { IfOk result (Makes 3 (residue extremum (offsets_of_input b.entry))) }
+    ensures makes { IfOk result (Makes 3 (residue extremum (offsets_of_input b.entry))) }
+    ensures form { IfOk result (HasForm false) }
 {
     let mut plan = chain(alloc, 3, extremum, b)?;
     plan.push(top_hat_step(extremum))?;
@@ -87,7 +91,8 @@ fn difference(
 ) -> Result<Plan, NoMemory>
     requires first { is_element_input first ≡ true }
     requires second { is_element_input second ≡ true }
-    ensures { IfOk result (Makes 3 (λ f. minus (sliding upper (offsets_of_input first.entry) f) (sliding lower (offsets_of_input second.entry) f))) }
+    ensures makes { IfOk result (Makes 3 (λ f. minus (sliding upper (offsets_of_input first.entry) f) (sliding lower (offsets_of_input second.entry) f))) }
+    ensures form { IfOk result (HasForm true) }
 {
     let greater = slide(upper, first)?;
     let lesser = slide(lower, second)?;
@@ -100,13 +105,15 @@ fn difference(
 
 fn rank_plan(alloc: Global, b: Input<'_>, k: u32) -> Result<Plan, NoMemory>
     requires { is_element_input b ≡ true }
-    ensures { IfOk result (Makes 1 (rank (offsets_of_input b.entry) k)) }
+    ensures makes { IfOk result (Makes 1 (rank (offsets_of_input b.entry) k)) }
+    ensures form { IfOk result (HasForm true) }
 {
     alone(alloc, rank(b, k)?)
 }
 
 fn thresholded(alloc: Global, k: u32) -> Result<Plan, NoMemory>
-    ensures { IfOk result (Makes 1 (threshold k)) }
+    ensures makes { IfOk result (Makes 1 (threshold k)) }
+    ensures form { IfOk result (HasForm true) }
 {
     alone(alloc, Step::AtLeast(k))
 }
@@ -114,7 +121,8 @@ fn thresholded(alloc: Global, k: u32) -> Result<Plan, NoMemory>
 /// The steps of an operation whose elements are there.
 fn steps(alloc: Global, op: &FlatOp, b: Input<'_>, c: Input<'_>) -> Result<Plan, NoMemory>
     requires { HasElements op.now b c }
-    ensures { IfOk result (Makes (step_count op.now) (operator_of op.now (offsets_of_input b.entry) (offsets_of_input c.entry))) }
+    ensures makes { IfOk result (Makes (step_count op.now) (operator_of op.now (offsets_of_input b.entry) (offsets_of_input c.entry))) }
+    ensures form { IfOk result (HasForm (has_rows op.now)) }
 {
     match op {
         FlatOp::Erode(_, _) => extremum_plan(alloc, ExtremumKind::Least, b),
@@ -152,6 +160,8 @@ pub fn plan_of_legal(
 ) -> Result<Plan, NoMemory>
     requires legal { fault_in (Op.Flat op.now) a b c ≡ None }
     ensures steps { IfOk result (λ p. length p ≡ step_count op.now) }
+    ensures strips { IfOk result (λ p. is_strip_plan p ≡ true) }
+    ensures rows { IfOk result (λ p. is_row_plan p ≡ has_rows op.now) }
     ensures plan { IfOk result (IsPlanOf (Op.Flat op.now) a.entry b.entry c.entry) }
 {
     let plan = steps(alloc, op, b, c)?;
@@ -169,6 +179,8 @@ pub fn plan_of(
 ) -> Result<Plan, PlanFault>
     ensures refused { IsRefusedBy (fault_in (Op.Flat op.now) a.entry b.entry c.entry) result }
     ensures steps { IfOk result (λ p. length p ≡ step_count op.now) }
+    ensures strips { IfOk result (λ p. is_strip_plan p ≡ true) }
+    ensures rows { IfOk result (λ p. is_row_plan p ≡ has_rows op.now) }
     ensures plan { IfOk result (IsPlanOf (Op.Flat op.now) a.entry b.entry c.entry) }
 {
     shape_of(&Op::Flat(*op), a, b, c)?;

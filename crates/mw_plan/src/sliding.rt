@@ -7,6 +7,7 @@ ghost use Rattle.mw_model.specs.declared.offsets.OffsetBox.{OffsetBox};
 ghost use Rattle.mw_model.specs.Flat.{reflected, rank};
 ghost use Rattle.mw_step_task.specs.Meanings.{meaning};
 ghost use Rattle.mw_plan.specs.Asked.{is_element_input, offsets_of_input};
+ghost use Rattle.mw_plan.specs.Forms.{is_slide};
 ghost use Rattle.mw_plan.specs.Steps.{ActsAs, IsNearBox, sliding, turned_box};
 
 use crate::Input;
@@ -53,7 +54,8 @@ fn turned_rectangle(element: &Element) -> Option<OffsetBox>
 /// The extremum under the element, or `NoMemory`. A full rectangle goes as its box.
 pub fn slide(extremum: ExtremumKind, input: Input<'_>) -> Result<Step, NoMemory>
     requires { is_element_input input ≡ true }
-    ensures { IfOk result (λ s. ActsAs (meaning s) (sliding extremum (offsets_of_input input.entry))) }
+    ensures acts { IfOk result (λ s. ActsAs (meaning s) (sliding extremum (offsets_of_input input.entry))) }
+    ensures slides { IfOk result (λ s. is_slide (meaning s) ≡ true) }
 {
     let element = input.element();
     Ok(match element.as_rectangle() {
@@ -69,7 +71,8 @@ pub fn slide_turned(
     input: Input<'_>,
 ) -> Result<Step, NoMemory>
     requires { is_element_input input ≡ true }
-    ensures { IfOk result (λ s. ActsAs (meaning s) (sliding extremum (reflected (offsets_of_input input.entry)))) }
+    ensures acts { IfOk result (λ s. ActsAs (meaning s) (sliding extremum (reflected (offsets_of_input input.entry)))) }
+    ensures slides { IfOk result (λ s. is_slide (meaning s) ≡ true) }
 {
     let element = input.element();
     if let Some(offsets) = turned_rectangle(element) {
@@ -82,7 +85,8 @@ pub fn slide_turned(
 /// The sample of this number under the element, in rising order.
 pub(crate) fn rank(input: Input<'_>, k: u32) -> Result<Step, NoMemory>
     requires { is_element_input input ≡ true }
-    ensures { IfOk result (λ s. ActsAs (meaning s) (rank (offsets_of_input input.entry) k)) }
+    ensures acts { IfOk result (λ s. ActsAs (meaning s) (rank (offsets_of_input input.entry) k)) }
+    ensures slides { IfOk result (λ s. is_slide (meaning s) ≡ true) }
 {
     Ok(Step::Rank(Arc::try_clone(input.element())?, k))
 }

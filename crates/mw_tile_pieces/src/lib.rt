@@ -3,7 +3,7 @@
 //! from it puts it together, outside the lock. What a piece has of the window is copied as one block of rows, whose places are
 //! counted up and not searched for. Narrow blocks, which stand at the sides of a tile, go column by column.
 //!
-//! `mw_tile_planes` makes these windows of tiles, and `mw_store`, `mw_c_direct` and `mw_c_strips` of images and of rows. `mw_step_task` holds
+//! `mw_tile_planes` makes these windows of tiles, and `mw_store`, `mw_c_direct` and `mw_c_layers` of images and of rows. `mw_step_task` holds
 //! them, and `mw_step` puts them together. Nothing here writes to a plane that it shares, or knows of tasks.
 //!
 //! ```text

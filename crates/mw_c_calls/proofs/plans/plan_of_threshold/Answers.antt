@@ -11,8 +11,8 @@ use Rattle.mw_c_arrays.proofs.SourceImages.{source_image}
 use Rattle.mw_c_calls.proofs.Planned.{threshold_plan_is}
 use Rattle.mw_c_calls.proofs.plans.plan_of_threshold.Goals as goal
 
-pub returns : goal.returns
-returns c =
+pub returns-clause-plan : goal.returns-clause-plan
+returns-clause-plan c =
     let f = picture_in c.args.f in
     let s = c.shape_of-shape.result in
     IfOk-weaker c.plan_of_legal.result (IsPlanOf (op.Flat (flat.Threshold c.name.result c.args.k)) (input.Image s) input.Absent input.Absent) (λ p. last_plane p f ≡ threshold c.args.k f)

@@ -42,6 +42,7 @@ write_rows_by-requires g c =
       sound = given;
       element = where_none c.fault.result (IsElementBitmap c.args.b.now) parts.element c.fault.ensures.sound;
       one = c.operation_of.ensures.one;
+      alone = c.operation_of.ensures.rows ∙ sym c.has_one_step-one.ensures ∙ when_not-none c.has_one_step-one.result code.Param (sym c.when-number.ensures ∙ parts.number);
       rows = c.are_rows-fits.ensures.rows given fits;
       stands = c.requires given;
     }

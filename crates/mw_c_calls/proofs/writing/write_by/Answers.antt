@@ -10,6 +10,7 @@ write_plan-requires g c =
     let f = picture_in c.args.f in
     record {
       sound = c.requires.sound;
+      strips = c.in-Ok.ensures.strips;
       room = c.requires.room;
       stands = subst (λ (m : ℕ). g.P.Sample.stands m) (sym (maxval_is c.args.op.now (element_in c.args.b.now) f (last_plane c.in-Ok.plan f) c.requires.one c.in-Ok.ensures.plan)) c.requires.stands;
     }

@@ -1,4 +1,4 @@
-use Rattle.std.proofs.Common.{◌≡◌, true, map, ap, ◌∙◌}
+use Rattle.std.proofs.Common.{◌≡◌, true, map, ap, rules, ◌∙◌}
 use Rattle.std.proofs.lemmas.Result.{IfOk-weaker}
 use Rattle.mw_model.specs.Flat.{minus}
 use Rattle.mw_model.specs.Pictures.{Picture}
@@ -23,6 +23,14 @@ returns-clause-made g c =
     ∙ ap (λ (p : Picture). (minus p (slide_picture lower f)).samples) (c.in-Some.ensures.picture f)
     ∙ ap (λ (p : Picture). (minus (rule_picture c.args.upper f) p).samples) (c.in-Some-slide_of.ensures.picture f))
     c.put_recipe.ensures.made
+
+pub returns-then-branch-clause-made : goal.returns-then-branch-clause-made
+returns-then-branch-clause-made g c = λ yes.
+    let f = picture_in c.args.f in
+    let lower = c.in-Some-slide_of.lower in
+    c.in_ok-put_range.ensures.made (search rules)
+    ∙ ap (λ (p : Picture). (minus p (slide_picture lower f)).samples) (c.in-Some.ensures.picture f)
+    ∙ ap (λ (p : Picture). (minus (rule_picture c.args.upper f) p).samples) (c.in-Some-slide_of.ensures.picture f)
 
 pub returns-clause-near : goal.returns-clause-near
 returns-clause-near g c =

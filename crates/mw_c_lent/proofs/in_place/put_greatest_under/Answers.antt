@@ -25,4 +25,4 @@ returns-clause-made g c =
     IfOk-weaker c.greatest_under.result (λ done. done ≡ true → IsMadeUnder greatest level (seen_at w) e r out)
     (λ done. done ≡ true → (f : Picture) → IsWholeView level w f → IsStrip r f → map level out ≡ cells_in r (sample (plane_of (Dilate e) (f ∷ []) f.width f.height)))
     (λ done made is f whole strip. made_whole greatest level w f (plane_of (Dilate e) (f ∷ []) f.width f.height) e r out whole strip (λ x y across down. greatest_there e e f x y (greatest (under f e x y)) across down refl refl) (made is))
-    (subst (λ (t : List Offset). IfOk c.greatest_under.result (λ done. done ≡ true → IsMadeUnder greatest level (seen_at w) t r out)) c.offsets-2.ensures.value c.greatest_under.ensures.made)
+    (subst (λ (t : List Offset). IfOk c.greatest_under.result (λ done. done ≡ true → IsMadeUnder greatest level (seen_at w) t r out)) c.offsets.ensures.value c.greatest_under.ensures.made)

@@ -28,4 +28,4 @@ returns-clause-made g c =
     (λ done made is f whole strip top.
     made_whole (least (level neutral)) level w f (plane_of (Erode e) (f ∷ []) f.width f.height) e r out whole strip
     (λ x y across down. least_there e e f x y (least (level neutral) (under f e x y)) across down refl (ap (λ (t : ℕ). least t (under f e x y)) (c.in-Some.ensures.level ∙ sym top))) (made is))
-    (subst (λ (t : List Offset). IfOk c.least_under.result (λ done. done ≡ true → IsMadeUnder (least (level neutral)) level (seen_at w) t r out)) c.offsets-2.ensures.value c.least_under.ensures.made)
+    (subst (λ (t : List Offset). IfOk c.least_under.result (λ done. done ≡ true → IsMadeUnder (least (level neutral)) level (seen_at w) t r out)) c.offsets.ensures.value c.least_under.ensures.made)

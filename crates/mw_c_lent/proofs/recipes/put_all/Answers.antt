@@ -1,4 +1,4 @@
-use Rattle.std.proofs.Common.{◌≡◌, ℕ, ◌+◌, ◌*◌, ◌≤◌, length, refl, ap, sym, subst, arith, ◌∙◌}
+use Rattle.std.proofs.Common.{◌≡◌, ℕ, ◌+◌, ◌*◌, ◌≤◌, min, length, refl, ap, sym, subst, arith, ◌∙◌}
 use Rattle.mw_model.specs.declared.offsets.Rect.{Rect}
 use Rattle.mw_line_lent.specs.Near.{IsAround}
 use Rattle.mw_c_lent.specs.declared.standing.First.{First}
@@ -43,17 +43,21 @@ stand-standing-requires-clause-around g c = subst (λ (p : First). IsAround (sli
 pub stand-standing-requires-clause-between : goal.stand-standing-requires-clause-between
 stand-standing-requires-clause-between g c =
     let more : ℕ = rows_beyond c.args.order.recipe in
-    let room : (c.args.rows + more) * c.frame_width-width.result ≤ length c.strips.between =
-    subst (λ (t : ℕ). (c.args.rows + more) * t ≤ length c.strips.between) (sym c.frame_width-width.ensures) (omega (arith, c.requires.between, c.strips.invariant.between)) in
-    let all = room_for (c.min.result + more) c.args.rows more c.frame_width-width.result (length c.strips.between) (omega (arith, c.min.ensures)) room in
-    subst (λ (p : First). (c.min.result + (p.reach.up + p.reach.down)) * c.frame_width-width.result ≤ length c.strips.between) (sym c.made_first-first.ensures) all
+    let high : ℕ = c.args.lent.now.frame_height in
+    let most : ℕ = min (c.args.rows + more) high in
+    let room : most * c.frame_width-width.result ≤ length c.strips.between =
+    subst (λ (t : ℕ). most * t ≤ length c.strips.between) (sym c.frame_width-width.ensures) (omega (arith, c.requires.between, c.strips.invariant.between)) in
+    let all = room_for (min (c.min.result + more) high) most c.frame_width-width.result (length c.strips.between) (omega (arith, c.min.ensures)) room in
+    subst (λ (p : First). min (c.min.result + (p.reach.up + p.reach.down)) high * c.frame_width-width.result ≤ length c.strips.between) (sym c.made_first-first.ensures) all
 
 pub put_rows_behind-requires-clause-between : goal.put_rows_behind-requires-clause-between
 put_rows_behind-requires-clause-between g c =
     let more : ℕ = rows_beyond c.args.order.recipe in
-    let room : (c.args.rows + more) * c.frame_width-width.result ≤ length c.strips.between =
-    subst (λ (t : ℕ). (c.args.rows + more) * t ≤ length c.strips.between) (sym c.frame_width-width.ensures) (omega (arith, c.requires.between, c.strips.invariant.between)) in
-    let all = room_for (c.min.result + more) c.args.rows more c.frame_width-width.result (length c.strips.between) (omega (arith, c.min.ensures)) room in
+    let high : ℕ = c.args.lent.now.frame_height in
+    let most : ℕ = min (c.args.rows + more) high in
+    let room : most * c.frame_width-width.result ≤ length c.strips.between =
+    subst (λ (t : ℕ). most * t ≤ length c.strips.between) (sym c.frame_width-width.ensures) (omega (arith, c.requires.between, c.strips.invariant.between)) in
+    let all = room_for (min (c.min.result + more) high) most c.frame_width-width.result (length c.strips.between) (omega (arith, c.min.ensures)) room in
     omega (arith, all, c.stand-standing.ensures.between)
 
 pub put_rows_behind-requires-clause-stands : goal.put_rows_behind-requires-clause-stands

@@ -12,14 +12,10 @@ overflow_add-rows g c =
     let image = source_image c.args.f c.requires.sound in
     omega (arith, c.in-Some-rows_of_strip.ensures.low, c.height-height.ensures, image.height.1, c.beyond_of-beyond.ensures.few)
 
-pub overflow_mul-rows : goal.overflow_mul-rows
-overflow_mul-rows g c =
+pub overflow_mul-held : goal.overflow_mul-held
+overflow_mul-held g c =
     let image = source_image c.args.f c.requires.sound in
-    omega (
-      arith,
-      mul-le (c.in-Some-rows_of_strip.rows + c.beyond_of-beyond.result) c.width-width.result 8447 8192
-          (omega (arith, c.in-Some-rows_of_strip.ensures.low, c.height-height.ensures, image.height.1, c.beyond_of-beyond.ensures.few)) (omega (arith, c.width-width.ensures, image.width.1)),
-    )
+    omega (arith, mul-le c.min-held.result c.width-width.result 8192 8192 (omega (arith, c.min-held.ensures, c.height-height.ensures, image.height.1)) (omega (arith, c.width-width.ensures, image.width.1)))
 
 pub returns-clause-made : goal.returns-clause-made
 returns-clause-made g c = λ yes.

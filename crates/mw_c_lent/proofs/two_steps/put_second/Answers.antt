@@ -1,4 +1,4 @@
-use Rattle.std.proofs.Common.{◌≡◌, ℕ, ◌+◌, ◌*◌, ◌≤◌, length, sym, subst, ◌∙◌}
+use Rattle.std.proofs.Common.{◌≡◌, ℕ, ◌+◌, ◌*◌, ◌≤◌, min, length, sym, subst, ◌∙◌}
 use Rattle.mw_model.specs.Rectangles.{box_offsets}
 use Rattle.mw_model.specs.Windows.{View, seen_at}
 use Rattle.mw_c_lent.specs.Boxes.{IsMadeUnder}
@@ -15,8 +15,8 @@ front_rows-rows-requires g c =
     let place = c.grown-place.result in
     let rows = grown_in w.frame_width w.frame_height c.frame_width-width.result c.frame_height-height.result reach strip place c.frame_width-width.ensures c.frame_height-height.ensures c.requires.strip c.grown-place.ensures.value in
     let same : strip.width ≡ place.width = c.requires.strip.across ∙ sym rows.across in
-    room_for place.height strip.height (reach.up + reach.down) place.width (length c.args.between.now) rows.few
-    (subst (λ (t : ℕ). (strip.height + (reach.up + reach.down)) * t ≤ length c.args.between.now) same c.requires.between)
+    let most : ℕ = min (strip.height + (reach.up + reach.down)) w.frame_height in
+    room_for place.height most place.width (length c.args.between.now) rows.few (subst (λ (t : ℕ). most * t ≤ length c.args.between.now) same c.requires.between)
 
 pub returns-clause-made : goal.returns-clause-made
 returns-clause-made g c = λ f whole top.

@@ -3,7 +3,7 @@ use Rattle.std.proofs.lemmas.Result.{IfOk-weaker}
 use Rattle.mw_model.specs.Pictures.{Picture}
 use Rattle.mw_c_arrays.specs.Sources.{picture_in}
 use Rattle.mw_c_arrays.proofs.SourceImages.{source_image}
-use Rattle.mw_c_strips.specs.Layers.{rule_picture}
+use Rattle.mw_c_layers.specs.Layers.{rule_picture}
 use Rattle.mw_c_strips.proofs.Filtered.{fills, in_turn_shape, refilled_image, refilled_is, rule_shape, same_count}
 use Rattle.mw_c_strips.proofs.applying.in_turn_of_levels.Goals as goal
 

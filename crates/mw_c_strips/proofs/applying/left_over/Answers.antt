@@ -1,6 +1,6 @@
 use Rattle.std.proofs.Common.{ℕ, ◌*◌, ap, sym, ◌∙◌}
 use Rattle.mw_c_arrays.specs.Sources.{picture_in}
-use Rattle.mw_c_strips.specs.Layers.{layer_picture}
+use Rattle.mw_c_layers.specs.Layers.{layer_picture}
 use Rattle.mw_c_strips.proofs.Filtered.{fills}
 use Rattle.mw_c_strips.proofs.applying.left_over.Goals as goal
 

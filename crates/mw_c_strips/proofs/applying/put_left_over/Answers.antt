@@ -2,9 +2,9 @@ use Rattle.std.proofs.Common.{◌≡◌, true, map, ap, sym, ◌∙◌}
 use Rattle.std.proofs.lemmas.Result.{IfOk-weaker}
 use Rattle.mw_model.specs.Flat.{minus}
 use Rattle.mw_c_arrays.specs.Sources.{picture_in}
-use Rattle.mw_c_strips.specs.declared.forms.Rest.{Rest}
-use Rattle.mw_c_strips.specs.Forms.{rest_picture}
-use Rattle.mw_c_strips.specs.Layers.{rule_picture}
+use Rattle.mw_c_forms.specs.declared.forms.Rest.{Rest}
+use Rattle.mw_c_forms.specs.Forms.{rest_picture}
+use Rattle.mw_c_layers.specs.Layers.{rule_picture}
 use Rattle.mw_c_strips.proofs.applying.put_left_over.Goals as goal
 
 pub returns-in-Taken-clause-made : goal.returns-in-Taken-clause-made

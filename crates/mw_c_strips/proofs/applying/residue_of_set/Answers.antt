@@ -3,10 +3,10 @@ use Rattle.std.proofs.lemmas.Result.{IfOk-weaker}
 use Rattle.mw_model.specs.Pictures.{IsImage, Picture}
 use Rattle.mw_c_arrays.specs.Sources.{picture_in}
 use Rattle.mw_c_arrays.proofs.SourceImages.{source_image}
-use Rattle.mw_c_strips.specs.Forms.{rest_picture}
-use Rattle.mw_c_strips.specs.Layers.{rule_picture}
+use Rattle.mw_c_forms.specs.Forms.{rest_picture}
+use Rattle.mw_c_layers.specs.Layers.{rule_picture}
 use Rattle.mw_c_strips.proofs.Filtered.{in_turn_shape, rule_shape}
-use Rattle.mw_c_strips.proofs.OriginImages.{between_image, set_top}
+use Rattle.mw_c_layers.proofs.OriginImages.{between_image, set_top}
 use Rattle.mw_c_strips.proofs.applying.residue_of_set.Goals as goal
 
 pub set_made-requires : goal.set_made-requires

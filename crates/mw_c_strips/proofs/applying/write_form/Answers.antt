@@ -1,8 +1,8 @@
 use Rattle.std.proofs.Common.{◌≡◌, map, subst, sym}
 use Rattle.std.specs.Prelude.{IfOk}
 use Rattle.mw_c_arrays.specs.Sources.{picture_in}
-use Rattle.mw_c_strips.specs.declared.forms.Form.{Form}
-use Rattle.mw_c_strips.specs.Forms.{form_picture}
+use Rattle.mw_c_forms.specs.declared.forms.Form.{Form}
+use Rattle.mw_c_forms.specs.Forms.{form_picture}
 use Rattle.mw_c_strips.proofs.applying.write_form.Goals as goal
 
 pub returns-in-Residue-clause-made : goal.returns-in-Residue-clause-made

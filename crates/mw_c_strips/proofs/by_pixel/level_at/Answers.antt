@@ -1,7 +1,7 @@
 use Rattle.std.proofs.Common.{◌≡◌, ◌<◌, sym, subst}
 use Rattle.mw_model.specs.Pictures.{sample}
-use Rattle.mw_c_strips.specs.declared.layers.Formula.{Formula}
-use Rattle.mw_c_strips.specs.Layers.{IsFormula, formula_picture, layer_picture}
+use Rattle.mw_c_layers.specs.declared.layers.Formula.{Formula}
+use Rattle.mw_c_layers.specs.Layers.{IsFormula, formula_picture, layer_picture}
 use Rattle.mw_c_strips.proofs.PixelValues.{difference_there}
 use Rattle.mw_c_strips.proofs.by_pixel.level_at.Goals as goal
 

@@ -3,7 +3,7 @@ use Rattle.std.proofs.lemmas.List.{take_all}
 use Rattle.mw_model.specs.Pictures.{Picture}
 use Rattle.mw_c_arrays.specs.Sources.{picture_in}
 use Rattle.mw_c_arrays.proofs.SourceImages.{source_image}
-use Rattle.mw_c_strips.specs.Layers.{rule_picture}
+use Rattle.mw_c_layers.specs.Layers.{rule_picture}
 use Rattle.mw_c_lent.proofs.Steps.{rule_is_picture, strip_above}
 use Rattle.mw_c_strips.proofs.Gathered.{levels_more, none_taken}
 use Rattle.mw_c_strips.proofs.gathering.levels_made.Goals as goal

@@ -1,6 +1,6 @@
 use Rattle.std.proofs.Common.{◌≡◌, ◌-◌, ◌*◌, ◌≤◌, map, take}
 use Rattle.mw_c_arrays.specs.Sources.{picture_in}
-use Rattle.mw_c_strips.specs.Layers.{rule_picture}
+use Rattle.mw_c_layers.specs.Layers.{rule_picture}
 use Rattle.mw_c_strips.proofs.gathering.levels_made.Given as goal
 
 abbrev pub invariant-strips : goal.invariant-strips

@@ -4,7 +4,7 @@ use Rattle.mw_model.specs.Pictures.{Picture}
 use Rattle.mw_c_arrays.specs.Sources.{picture_in}
 use Rattle.mw_pixel.specs.mw_pixel_words.Packed.{samples_of, IsPacked}
 use Rattle.mw_pixel.specs.Images.{set_of}
-use Rattle.mw_c_strips.specs.Layers.{rule_picture}
+use Rattle.mw_c_layers.specs.Layers.{rule_picture}
 use Rattle.mw_c_strips.proofs.Gathered.{set_is}
 use Rattle.mw_c_strips.proofs.gathering.set_made.Goals as goal
 

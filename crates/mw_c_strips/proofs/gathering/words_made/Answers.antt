@@ -5,7 +5,7 @@ use Rattle.mw_model.specs.Tasks.{cells_in}
 use Rattle.mw_c_arrays.specs.Sources.{picture_in}
 use Rattle.mw_c_arrays.proofs.SourceImages.{source_image}
 use Rattle.mw_pixel.specs.mw_pixel_words.Packed.{samples_of, IsPacked}
-use Rattle.mw_c_strips.specs.Layers.{rule_picture}
+use Rattle.mw_c_layers.specs.Layers.{rule_picture}
 use Rattle.mw_c_lent.proofs.Steps.{rule_is_picture, strip_above}
 use Rattle.mw_c_strips.proofs.Gathered.{packed_more, packed_none, samples_more, samples_none, taken_more}
 use Rattle.mw_c_strips.proofs.gathering.words_made.Goals as goal

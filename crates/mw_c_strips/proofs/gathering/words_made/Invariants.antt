@@ -1,7 +1,7 @@
 use Rattle.std.proofs.Common.{◌≡◌, ◌-◌, ◌*◌, ◌≤◌, take}
 use Rattle.mw_c_arrays.specs.Sources.{picture_in}
 use Rattle.mw_pixel.specs.mw_pixel_words.Packed.{samples_of, IsPacked}
-use Rattle.mw_c_strips.specs.Layers.{rule_picture}
+use Rattle.mw_c_layers.specs.Layers.{rule_picture}
 use Rattle.mw_c_strips.proofs.gathering.words_made.Given as goal
 
 abbrev pub invariant-strips : goal.invariant-strips

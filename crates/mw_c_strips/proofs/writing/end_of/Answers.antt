@@ -1,8 +1,8 @@
 use Rattle.std.proofs.Common.{◌≡◌, ap, arith, sym, ◌∙◌}
-use Rattle.mw_c_strips.specs.declared.origins.Origin.{Origin}
-use Rattle.mw_c_strips.specs.Origins.{origin_picture}
-use Rattle.mw_c_strips.specs.Layers.{formula_picture}
-use Rattle.mw_c_strips.proofs.Formulas.{formula_frame, formula_sides}
+use Rattle.mw_c_layers.specs.declared.origins.Origin.{Origin}
+use Rattle.mw_c_layers.specs.Origins.{origin_picture}
+use Rattle.mw_c_layers.specs.Layers.{formula_picture}
+use Rattle.mw_c_layers.proofs.Formulas.{formula_frame, formula_sides}
 use Rattle.mw_c_strips.proofs.SomeRows.{rows_end}
 use Rattle.mw_c_strips.proofs.writing.end_of.Goals as goal
 

@@ -1,5 +1,5 @@
 use Rattle.std.proofs.Common.{arith, refl}
-use Rattle.mw_c_strips.specs.Layers.{formula_picture}
+use Rattle.mw_c_layers.specs.Layers.{formula_picture}
 use Rattle.mw_c_strips.proofs.InPlace.{none_made}
 use Rattle.mw_c_lent.proofs.Written.{no_rows}
 use Rattle.mw_c_strips.proofs.writing.put_any.Goals as goal

@@ -1,7 +1,7 @@
 use Rattle.std.proofs.Common.{◌≡◌, ℕ, ◌+◌, ◌*◌, length, ap, sym, arith, ◌∙◌}
 use Rattle.std.proofs.lemmas.Nat.{mul-le}
 use Rattle.mw_c_arrays.specs.Sources.{picture_in}
-use Rattle.mw_c_strips.specs.Layers.{rule_picture}
+use Rattle.mw_c_layers.specs.Layers.{rule_picture}
 use Rattle.mw_c_strips.specs.Rows.{rows_from}
 use Rattle.mw_c_lent.proofs.Rows.{samples_between}
 use Rattle.mw_c_strips.proofs.InPlace.{nothing_between, rows_in_three}

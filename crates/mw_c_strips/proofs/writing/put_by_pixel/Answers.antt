@@ -1,6 +1,6 @@
 use Rattle.std.proofs.Common.{◌≡◌, ℕ, ◌+◌, ◌*◌, length, arith, subst}
-use Rattle.mw_c_strips.specs.Layers.{formula_picture}
-use Rattle.mw_c_strips.specs.Parts.{HasImageRows}
+use Rattle.mw_c_layers.specs.Layers.{formula_picture}
+use Rattle.mw_c_layers.specs.Parts.{HasImageRows}
 use Rattle.mw_c_strips.proofs.SomeRows.{room_for_row}
 use Rattle.mw_c_strips.proofs.writing.put_by_pixel.Goals as goal
 

@@ -1,6 +1,6 @@
 use Rattle.std.proofs.Common.{◌+◌, ◌*◌, ◌≤◌, length}
-use Rattle.mw_c_strips.specs.Layers.{formula_picture}
-use Rattle.mw_c_strips.specs.Parts.{HasImageRows}
+use Rattle.mw_c_layers.specs.Layers.{formula_picture}
+use Rattle.mw_c_layers.specs.Parts.{HasImageRows}
 use Rattle.mw_c_strips.proofs.writing.put_by_pixel.Given as goal
 
 abbrev pub invariant-loop-y : goal.invariant-loop-y

@@ -1,10 +1,10 @@
 use Rattle.std.proofs.Common.{◌≡◌, ℕ, ◌+◌, length, ap, arith, subst, sym, ◌∙◌}
-use Rattle.mw_c_strips.specs.declared.origins.Origin.{Origin}
-use Rattle.mw_c_strips.specs.Origins.{origin_picture}
-use Rattle.mw_c_strips.specs.Layers.{formula_picture}
-use Rattle.mw_c_strips.specs.Parts.{HasImageRows}
+use Rattle.mw_c_layers.specs.declared.origins.Origin.{Origin}
+use Rattle.mw_c_layers.specs.Origins.{origin_picture}
+use Rattle.mw_c_layers.specs.Layers.{formula_picture}
+use Rattle.mw_c_layers.specs.Parts.{HasImageRows}
 use Rattle.mw_c_strips.specs.Rows.{EndAt, rows_from}
-use Rattle.mw_c_strips.proofs.Formulas.{formula_frame, formula_is_picture, formula_sides}
+use Rattle.mw_c_layers.proofs.Formulas.{formula_frame, formula_is_picture, formula_sides}
 use Rattle.mw_c_strips.proofs.SomeRows.{strip_room}
 use Rattle.mw_c_lent.proofs.Written.{all_cells}
 use Rattle.mw_c_strips.proofs.writing.put_rest.Goals as goal

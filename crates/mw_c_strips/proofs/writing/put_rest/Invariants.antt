@@ -1,6 +1,6 @@
 use Rattle.std.proofs.Common.{◌-◌, ◌≤◌, length}
-use Rattle.mw_c_strips.specs.Layers.{formula_picture}
-use Rattle.mw_c_strips.specs.Parts.{HasImageRows}
+use Rattle.mw_c_layers.specs.Layers.{formula_picture}
+use Rattle.mw_c_layers.specs.Parts.{HasImageRows}
 use Rattle.mw_c_strips.specs.Rows.{EndAt}
 use Rattle.mw_c_strips.proofs.writing.put_rest.Given as goal
 

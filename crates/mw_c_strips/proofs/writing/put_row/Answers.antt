@@ -1,8 +1,8 @@
 use Rattle.std.proofs.Common.{◌≡◌, ℕ, ◌+◌, ◌-◌, ◌*◌, ◌<◌, ◌≤◌, length, get_or, arith, sym, subst, ap, ◌∙◌, rules}
 use Rattle.std.proofs.lemmas.List.{length-set}
 use Rattle.mw_model.proofs.ImagePlaces.{sample_bounded}
-use Rattle.mw_c_strips.specs.Layers.{formula_picture}
-use Rattle.mw_c_strips.proofs.Formulas.{formula_is_picture}
+use Rattle.mw_c_layers.specs.Layers.{formula_picture}
+use Rattle.mw_c_layers.proofs.Formulas.{formula_is_picture}
 use Rattle.mw_c_strips.proofs.SomeRows.{room_for_cell}
 use Rattle.mw_c_lent.proofs.Written.{row_full, row_more}
 use Rattle.mw_c_strips.proofs.writing.put_row.Goals as goal

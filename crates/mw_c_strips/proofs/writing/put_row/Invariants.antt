@@ -1,5 +1,5 @@
 use Rattle.std.proofs.Common.{◌+◌, ◌*◌, ◌≤◌, length}
-use Rattle.mw_c_strips.specs.Layers.{formula_picture}
+use Rattle.mw_c_layers.specs.Layers.{formula_picture}
 use Rattle.mw_c_lent.specs.Rows.{HasCells}
 use Rattle.mw_c_strips.proofs.writing.put_row.Given as goal
 

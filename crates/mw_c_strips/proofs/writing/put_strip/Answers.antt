@@ -1,8 +1,8 @@
 use Rattle.std.proofs.Common.{◌≡◌, ℕ, ◌+◌, ◌-◌, length, arith, subst, sym}
-use Rattle.mw_c_strips.specs.Layers.{formula_picture}
-use Rattle.mw_c_strips.proofs.Formulas.{formula_is_picture}
+use Rattle.mw_c_layers.specs.Layers.{formula_picture}
+use Rattle.mw_c_layers.proofs.Formulas.{formula_is_picture}
 use Rattle.mw_c_strips.proofs.SomeRows.{room_behind}
-use Rattle.mw_c_strips.proofs.RowCells.{part_size, part_top}
+use Rattle.mw_c_layers.proofs.RowCells.{part_size, part_top}
 use Rattle.mw_c_strips.proofs.writing.put_strip.Goals as goal
 
 pub put_rows-requires : goal.put_rows-requires

@@ -1,13 +1,13 @@
 use Rattle.std.proofs.Common.{◌≡◌, ℕ, ◌+◌, length, ap, arith, subst, sym, ◌∙◌}
-use Rattle.mw_c_strips.specs.declared.origins.Origin.{Origin}
-use Rattle.mw_c_strips.specs.Origins.{origin_picture}
-use Rattle.mw_c_strips.specs.Layers.{formula_picture}
-use Rattle.mw_c_strips.specs.Parts.{HasImageRows}
+use Rattle.mw_c_layers.specs.declared.origins.Origin.{Origin}
+use Rattle.mw_c_layers.specs.Origins.{origin_picture}
+use Rattle.mw_c_layers.specs.Layers.{formula_picture}
+use Rattle.mw_c_layers.specs.Parts.{HasImageRows}
 use Rattle.mw_c_strips.specs.Rows.{EndAt, rows_from}
-use Rattle.mw_c_strips.proofs.Formulas.{formula_frame, formula_is_picture, formula_sides}
+use Rattle.mw_c_layers.proofs.Formulas.{formula_frame, formula_is_picture, formula_sides}
 use Rattle.mw_c_strips.proofs.SomeRows.{room_behind, strip_room}
 use Rattle.mw_c_lent.proofs.Written.{no_rows}
-use Rattle.mw_c_strips.proofs.RowCells.{part_size, part_top}
+use Rattle.mw_c_layers.proofs.RowCells.{part_size, part_top}
 use Rattle.mw_c_strips.proofs.writing.put_strips.Goals as goal
 
 pub strip_from-strip-requires : goal.strip_from-strip-requires

@@ -1,8 +1,8 @@
 use Rattle.std.proofs.Common.{◌≡◌, length, map, ◌∙◌}
 use Rattle.std.proofs.lemmas.Result.{IfOk-weaker}
-use Rattle.mw_c_strips.specs.Layers.{formula_picture}
+use Rattle.mw_c_layers.specs.Layers.{formula_picture}
 use Rattle.mw_c_strips.specs.Rows.{rows_from}
-use Rattle.mw_c_strips.proofs.Formulas.{formula_is_picture, formula_sides}
+use Rattle.mw_c_layers.proofs.Formulas.{formula_is_picture, formula_sides}
 use Rattle.mw_c_strips.proofs.SomeRows.{all_from_first, all_rows}
 use Rattle.mw_c_strips.proofs.writing.write_all.Goals as goal
 

@@ -1,4 +1,4 @@
-use Rattle.std.proofs.Common.{ℕ, ◌+◌, ◌*◌, get_or, ap, sym, arith, ◌∙◌, zero-add}
+use Rattle.std.proofs.Common.{ℕ, get_or, ap, sym, arith, ◌∙◌, zero-add}
 use Rattle.mw_line_lent.proofs.tiles.begin_sheet.Goals as goal
 
 pub returns : goal.returns

@@ -1,16 +1,4 @@
-use Rattle.std.proofs.Common.{ℕ, ◌+◌, ◌-◌, ◌*◌, get_or, ap, sym, arith, ◌∙◌, inl, inr, zero-add}
-use Rattle.std.proofs.lemmas.Bool.{cases_lt}
-use Rattle.std.proofs.lemmas.List.{get_or_past}
-use Rattle.mw_line_lent.proofs.LineCells.{blank_first}
 use Rattle.mw_line_lent.proofs.tiles.put_with_room.Goals as goal
 
-pub put_all-requires-clause-blank : goal.put_all-requires-clause-blank
-put_all-requires-clause-blank g c =
-    let b = c.args.boxes in
-    let n = c.args.neutral in
-    let count : ℕ = 4 * (b.width + (b.across - 1)) in
-    let lines = c.fill.new.out in
-    blank_first n b lines (omega (arith, c.fill.ensures.put.size)) (λ p. elim (cases_lt p count) [
-      | inl here ↦ ap (λ (t : ℕ). get_or lines t n) (sym (zero-add p)) ∙ c.fill.ensures.made p n here
-      | inr past ↦ get_or_past lines p n (omega (arith, past, c.fill.ensures.put.size))
-    ])
+pub begin_lines-requires-clause-part : goal.begin_lines-requires-clause-part
+begin_lines-requires-clause-part g c = c.requires.part.within

@@ -5,4 +5,4 @@ pub steps-requires : goal.steps-requires
 steps-requires c = elements_there c.args.op.now c.args.a c.args.b c.args.c c.requires.legal
 
 pub returns-clause-plan : goal.returns-clause-plan
-returns-clause-plan c = flat_plan c.args.op.now c.args.a c.args.b c.args.c c.in_ok-plan.plan c.requires.legal c.in_ok-plan.ensures
+returns-clause-plan c = flat_plan c.args.op.now c.args.a c.args.b c.args.c c.in_ok-plan.plan c.requires.legal c.in_ok-plan.ensures.makes

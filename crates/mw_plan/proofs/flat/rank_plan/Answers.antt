@@ -5,5 +5,5 @@ use Rattle.mw_model.specs.Flat.{rank}
 use Rattle.mw_plan.proofs.OneImage.{alone_if_ok}
 use Rattle.mw_plan.proofs.flat.rank_plan.Goals as goal
 
-pub returns : goal.returns
-returns c = alone_if_ok NoMemory c.alone.result (meaning c.in_ok-rank.field-0) (rank (offsets_of_input c.args.b) c.args.k) c.in_ok-rank.ensures c.alone.ensures
+pub returns-clause-makes : goal.returns-clause-makes
+returns-clause-makes c = alone_if_ok NoMemory c.alone.result (meaning c.in_ok-rank.field-0) (rank (offsets_of_input c.args.b) c.args.k) c.in_ok-rank.ensures.acts c.alone.ensures

@@ -8,7 +8,7 @@ use Rattle.mw_plan.specs.Steps.{ActsAs}
 use Rattle.mw_plan.proofs.Acting.{acts_by_rank}
 use Rattle.mw_plan.proofs.sliding.rank.Goals as goal
 
-pub returns : goal.returns
-returns c =
+pub returns-clause-acts : goal.returns-clause-acts
+returns-clause-acts c =
     let e = offsets_of_input c.args.input in
     subst (λ (d : List Offset). ActsAs (step.Rank d c.args.k) (rank e c.args.k)) (sym (ap (λ (f : Figure). f.offsets) c.in_ok-try_clone.ensures ∙ c.element.ensures)) (acts_by_rank e c.args.k)

@@ -14,7 +14,7 @@ returns-clause-made c =
     let sight = seen_at c.args.lent.now in
     let element = c.args.offsets.now in
     let tile = c.args.tile in
-    let out = c.offsets_into.new.out in
-    IfOk-weaker c.offsets_into.result (λ done. done ≡ true → IsSlidingExtremum (λ (a b : ℕ). max a b) 0 sight element tile (raster tile.width tile.height out))
+    let out = c.extremum_under.new.out in
+    IfOk-weaker c.extremum_under.result (λ done. done ≡ true → IsSlidingExtremum (λ (a b : ℕ). max a b) 0 sight element tile (raster tile.width tile.height out))
     (λ done. done ≡ true → IsMadeUnder greatest (λ (n : ℕ). n) sight element tile out)
-    (λ done is yes. made_of_levels greatest (λ (a b : ℕ). max a b) 0 sight element tile out fold-max_from_none (is yes)) c.offsets_into.ensures.over_window
+    (λ done is yes. made_of_levels greatest (λ (a b : ℕ). max a b) 0 sight element tile out fold-max_from_none (is yes)) c.extremum_under.ensures.over_window

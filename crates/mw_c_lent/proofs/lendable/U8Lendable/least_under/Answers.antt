@@ -14,7 +14,7 @@ returns-clause-made c =
     let sight = seen_at c.args.lent.now in
     let element = c.args.offsets.now in
     let tile = c.args.tile in
-    let out = c.offsets_into.new.out in
-    IfOk-weaker c.offsets_into.result (λ done. done ≡ true → IsSlidingExtremum (λ (a b : ℕ). min a b) c.args.neutral sight element tile (raster tile.width tile.height out))
+    let out = c.extremum_under.new.out in
+    IfOk-weaker c.extremum_under.result (λ done. done ≡ true → IsSlidingExtremum (λ (a b : ℕ). min a b) c.args.neutral sight element tile (raster tile.width tile.height out))
     (λ done. done ≡ true → IsMadeUnder (least c.args.neutral) (λ (n : ℕ). n) sight element tile out)
-    (λ done is yes. made_of_levels (least c.args.neutral) (λ (a b : ℕ). min a b) c.args.neutral sight element tile out (fold-min c.args.neutral) (is yes)) c.offsets_into.ensures.over_window
+    (λ done is yes. made_of_levels (least c.args.neutral) (λ (a b : ℕ). min a b) c.args.neutral sight element tile out (fold-min c.args.neutral) (is yes)) c.extremum_under.ensures.over_window

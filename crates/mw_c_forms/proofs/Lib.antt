@@ -1,0 +1,2 @@
+-- the crate's own
+mod FormPlans

@@ -1,0 +1,5 @@
+-- the crate's own
+mod UnderOffsets
+mod InBoxes
+mod SmallLevels
+mod PixelValues

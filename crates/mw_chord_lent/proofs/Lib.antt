@@ -1,0 +1,6 @@
+-- the crate's own
+mod Puts
+mod Grows
+mod Gathers
+mod Places
+mod Works

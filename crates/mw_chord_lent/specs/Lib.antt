@@ -1,0 +1,4 @@
+pub mod Sizes
+pub mod Grown
+pub mod Placed
+pub mod Works

@@ -1,0 +1,142 @@
+//! Extrema of a tile, where they can be made of chords.
+ghost use Rattle.std.specs.Prelude.{◌≡◌, ℕ, ◌+◌, ◌*◌, ◌<◌, ◌≤◌, ◌^◌, ◌-ℤ◌, ◌≤ℤ◌, length, slice_index_or, IfErr, IfOk, IsTrue, OnOk, false, true};
+ghost use Rattle.std.specs.List.{AllByRecursion};
+ghost use Rattle.mw_model.specs.Rasters.{Raster, raster, cell_at};
+ghost use Rattle.mw_model.specs.Rectangles.{nonnegative};
+ghost use Rattle.mw_model.specs.Windows.{seen_at};
+ghost use Rattle.mw_line.specs.mw_tile.Windows.{IsWindow};
+ghost use Rattle.mw_line.specs.Extrema.{IsSlidingExtremum};
+ghost use Rattle.mw_offset.specs.mw_element_runs.Runs.{AreEitherWay, RunIsInside};
+ghost use Rattle.mw_chord_lent.specs.Works.{IsBlockPlan, IsSeen};
+ghost use Rattle.mw_chord_lent.specs.Sizes.{AreSizesTo};
+
+use crate::blocks::{Work, put_blocks};
+use crate::chords::{longest_of, places_of, sizes_of};
+use crate::plan::{Plan, plan_of};
+use mw_line::pixel::copies;
+use mw_line_lent::{Laned, LanedExtremum};
+use mw_model::{NoMemory, Offset};
+use mw_offset::run::{Extent, Run, columns_after, extent_of, rows_after, runs_either_way};
+use mw_tile_lent::{Lent, Rect};
+use std::alloc::Global;
+
+/// How many vectors all lists may have, which are 2 MiB.
+const MOST: usize = 65536;
+
+/// Whether an element is small enough for its rows to be laid out around a block: it has at most 256 columns and rows.
+fn is_near(extent: Extent) -> bool
+    ensures { IsTrue result → (extent.left ≤ℤ extent.right) × (extent.top ≤ℤ extent.bottom) × (nonnegative (extent.right -ℤ extent.left) ≤ 255) × (nonnegative (extent.bottom -ℤ extent.top) ≤ 255) }
+{
+    if extent.right < extent.left || extent.bottom < extent.top {
+        return false;
+    }
+    columns_after(extent) < 256 && rows_after(extent) < 256
+}
+
+/// How many vectors of columns and how many samples a tile has at least. For fewer, rows that are copied are made as soon.
+const NARROWEST: usize = 8;
+
+const SMALLEST: u64 = 32768;
+
+/// How many runs an element has at most that is made in a tile of fewer columns. One of more is taller, or has gaps, and takes rows
+/// of more places from the cache than are left there beside the lists.
+const RUNS: usize = 52;
+
+const COLUMNS: u32 = 2048;
+
+/// Whether it is sooner to make chords. Any answer is right.
+fn is_quick(runs: usize, tile: Rect, lanes: usize) -> bool
+    requires { lanes ≤ 32 }
+{
+    if (tile.width as usize) < NARROWEST * lanes {
+        return false;
+    }
+    if u64::from(tile.width) * u64::from(tile.height) < SMALLEST {
+        return false;
+    }
+    runs <= RUNS || tile.width >= COLUMNS
+}
+
+/// Writes all results of a tile, for which it wants memory first. Says whether it did.
+fn put_tile<P: Laned, E: LanedExtremum<P>>(
+    alloc: Global,
+    lent: &Lent<P>,
+    runs: &[Run],
+    extent: Extent,
+    neutral: P,
+    tile: Rect,
+    out: &mut [P],
+) -> Result<bool, NoMemory>
+    requires inside { AllByRecursion (RunIsInside extent) runs.now }
+    requires some { 0 < length runs.now }
+    requires across { 2 * P.WIDTH ≤ tile.width }
+    requires down { 0 < tile.height }
+    requires low { tile.y + tile.height < 2 ^ 32 }
+    requires room { length out.old ≡ tile.height * tile.width }
+    requires left { extent.left ≤ℤ extent.right }
+    requires top { extent.top ≤ℤ extent.bottom }
+    requires near { nonnegative (extent.right -ℤ extent.left) ≤ 255 }
+    requires few { nonnegative (extent.bottom -ℤ extent.top) ≤ 255 }
+    ensures size { length out.new ≡ length out.old }
+    ensures made { IfOk result (λ done. done ≡ true → (x y : ℕ) → x < tile.width → y < tile.height → IsSeen E.merge neutral (seen_at lent.now) runs.now tile x y (slice_index_or out.new (y * tile.width + x) neutral)) }
+    ensures left_out { IfOk result (λ done. done ≡ false → out.new ≡ out.old) }
+    ensures kept { IfErr result (λ _. out.new ≡ out.old) }
+{
+    let longest = longest_of(runs);
+    if longest == 0 || longest > 256 {
+        return Ok(false);
+    }
+    let sizes = sizes_of(alloc, runs, longest)?;
+    if sizes.len() > 256 {
+        return Ok(false);
+    }
+    let plan = plan_of(tile, extent, sizes.len(), longest, P::WIDTH);
+    if sizes.len() * plan.span > MOST * P::WIDTH {
+        return Ok(false);
+    }
+    let places = places_of(alloc, runs, sizes.as_slice(), extent, plan.wide, plan.span)?;
+    let mut lists = copies(alloc, sizes.len() * plan.span, neutral)?;
+    let work = Work {
+        tile,
+        extent,
+        plan,
+        sizes: sizes.as_slice(),
+        places: places.as_slice(),
+    };
+    put_blocks::<P, E>(lent, work, neutral, lists.as_mut_slice(), out);
+    Ok(true)
+}
+
+/// Writes at each place of the tile the extremum of the neutral sample and what is lent under the offsets, where these lie in 256
+/// columns and rows, the tile has eight vectors of columns and 32,768 samples, and the lists of chords take 2 MiB at most; with very
+/// many runs, where it has 2,048 columns. Says whether it did: where not, it writes nothing. Where what is lent has all that the frame
+/// has under the offsets, this is the extremum over the frame. It may want memory (`NoMemory`), but only before it writes.
+pub fn chords_into<P: Laned, E: LanedExtremum<P>>(
+    alloc: Global,
+    lent: &Lent<P>,
+    offsets: &[Offset],
+    neutral: P,
+    tile: Rect,
+    out: &mut [P],
+) -> Result<bool, NoMemory>
+    requires { length out.old ≡ tile.height * tile.width }
+    ensures over_window { IfOk result (λ done. done ≡ true → IsSlidingExtremum E.merge neutral (seen_at lent.now) offsets.now tile (raster tile.width tile.height out.new)) }
+    ensures over_frame { IfOk result (λ done. done ≡ true → (f : Raster P) → IsWindow lent.now f offsets.now tile → IsSlidingExtremum E.merge neutral (cell_at f) offsets.now tile (raster tile.width tile.height out.new)) }
+    ensures left_out { IfOk result (λ done. done ≡ false → out.new ≡ out.old) }
+    ensures kept { IfErr result (λ _. out.new ≡ out.old) }
+{
+    if (tile.width as usize) < 2 * P::WIDTH || tile.height == 0 {
+        return Ok(false);
+    }
+    if tile.y > u32::MAX - tile.height {
+        return Ok(false);
+    }
+    let runs = runs_either_way(alloc, offsets)?;
+    let Some(extent) = extent_of(runs.as_slice()) else {
+        return Ok(false);
+    };
+    if !is_near(extent) || !is_quick(runs.len(), tile, P::WIDTH) {
+        return Ok(false);
+    }
+    put_tile::<P, E>(alloc, lent, runs.as_slice(), extent, neutral, tile, out)
+}
