@@ -1,7 +1,7 @@
 #!/usr/bin/python3
-"""Times libmorphd beside OpenCV, both in one thread and by turns in one run, on images of 4096 x 4096 and of 1024 x 1024, with the
-samples of bench/peers.py. The best of so many rounds counts, by the time of the processor, and of small images of four times as many;
-both write into an array that is there already.
+"""Times libmorphd beside OpenCV, and openings of sets by a box beside Leptonica, both in one thread and by turns in one run, on images
+of 4096 x 4096 and of 1024 x 1024, with the samples of bench/peers.py. The best of so many rounds counts, by the time of the processor,
+and of small images of four times as many; both write into an array that is there already.
 
     /usr/bin/python3 bench/library.py LIBRARY.. [ROUNDS [WORD]]
     /usr/bin/python3 bench/library.py LIBRARY.. memory [WORD]
@@ -13,10 +13,11 @@ in that build. It is told which build runs. Several libraries run by turns: both
 With a word only the lines that have it are timed, and with a side, as 1024, those of that side: a line is told as `1024 u8 erosion, box
 of 3`. With `memory` it tells instead how much memory a call on the larger images takes beyond the caller's arrays, and how often it
 waits for a page, from a heap that is empty. With `alone` it only calls libmorphd, for who counts where the time goes. It needs a
-Python with cv2 (Debian: python3-opencv).
+Python with cv2 (Debian: python3-opencv). Where Leptonica is not installed (Debian: libleptonica-dev), its line is left out.
 """
 import ctypes
 import functools
+import math
 import os
 import pathlib
 import re
@@ -27,6 +28,7 @@ import tempfile
 import time
 
 import cv2
+import leptonica
 import numpy
 from peers import SIDE, disc, levels, rectangle
 
@@ -35,6 +37,7 @@ NUMBER, LENGTH, POINTER = ctypes.c_uint32, ctypes.c_size_t, ctypes.c_void_p
 ARRAY, ELEMENT = [POINTER, LENGTH], [POINTER, LENGTH] + [NUMBER] * 4
 LEVELS = {"u8": [ctypes.c_uint8], "u16": [ctypes.c_uint16], "set": []}
 SIDES = (SIDE, 1024)
+LEPTONICA = leptonica.loaded()
 
 
 def opened(told):
@@ -82,40 +85,73 @@ def flat(library, kind):
     return run
 
 
+def slanted(degrees, across=41):
+    """A line of so many pixels, one in each column, or in each row where it is steep."""
+    angle, half = math.radians(degrees), across // 2
+    is_steep = abs(math.sin(angle)) > abs(math.cos(angle))
+    slope = 1 / math.tan(angle) if is_steep else math.tan(angle)
+    places = [(round(slope * step), step) for step in range(-half, half + 1)]
+    reach = max(it for it, _ in places)
+    element = numpy.zeros((2 * reach + 1, across), numpy.uint8)
+    for aside, step in places:
+        element[reach + aside, half + step] = 1
+    return numpy.ascontiguousarray(element.T) if is_steep else element
+
+
 def erosions():
     """The elements of the erosions that are timed, by their names."""
     boxes = {f"box of {side}": rectangle(side) for side in (3, 5, 9, 15, 63)}
     discs = {f"disc of {side}": disc(side) for side in (5, 7, 15, 31)}
-    return boxes | discs | {"diagonal of 41": numpy.eye(41, dtype=numpy.uint8)}
+    slants = {f"line of 41 at {degrees} degrees": slanted(degrees) for degrees in (5, 15, 30, 60, 75)}
+    return boxes | discs | {"diagonal of 41": numpy.eye(41, dtype=numpy.uint8)} | slants
 
 
 def filters():
     """The elements of the openings and closings that are timed, by their names."""
-    return {f"box of {side}": rectangle(side) for side in (3, 5, 15)} | {"disc of 15": disc(15)}
+    boxes = {f"box of {side}": rectangle(side) for side in (3, 5, 15)}
+    return boxes | {"disc of 5": disc(5), "disc of 15": disc(15), "diagonal of 41": numpy.eye(41, dtype=numpy.uint8)}
+
+
+class InOpenCV:
+    """What OpenCV makes of an image by a call that takes the image, an element and the result. Called, it makes it anew."""
+
+    def __init__(self, call, image, element):
+        self.made = numpy.zeros_like(image)
+        self.run = lambda: call(image, element, self.made)
+
+    def __call__(self):
+        self.run()
+
+    def result(self):
+        return self.made
 
 
 def as_in_opencv(operation):
     """What makes in OpenCV what an operation is there."""
-    return lambda f, e, out: cv2.morphologyEx(f, operation, e, dst=out)
+    return functools.partial(InOpenCV, lambda f, e, out: cv2.morphologyEx(f, operation, e, dst=out))
 
 
 def lines():
-    """What is timed: its name, the kind of samples, the operation with its k, the element, and what OpenCV does."""
+    """What is timed: its name, the kind of samples, the operation with its k, the element, and what is asked of the other program."""
     for kind in ("u8", "u16"):
         for name, element in erosions().items():
             yield f"erosion, {name}", kind, ERODE, 0, element, as_in_opencv(cv2.MORPH_ERODE)
         for name, element in filters().items():
             yield f"opening, {name}", kind, OPEN, 0, element, as_in_opencv(cv2.MORPH_OPEN)
             yield f"closing, {name}", kind, CLOSE, 0, element, as_in_opencv(cv2.MORPH_CLOSE)
-        yield "top-hat, disc of 63", kind, WHITE_TOP_HAT, 0, disc(63), as_in_opencv(cv2.MORPH_TOPHAT)
-        yield "gradient, box of 3", kind, GRADIENT, 0, rectangle(3), as_in_opencv(cv2.MORPH_GRADIENT)
+        for side in (5, 63):
+            yield f"top-hat, disc of {side}", kind, WHITE_TOP_HAT, 0, disc(side), as_in_opencv(cv2.MORPH_TOPHAT)
+        for name, element in (("box of 3", rectangle(3)), ("disc of 5", disc(5))):
+            yield f"gradient, {name}", kind, GRADIENT, 0, element, as_in_opencv(cv2.MORPH_GRADIENT)
     # OpenCV has medians of 16 bits under these two squares alone
     for kind, sides in (("u8", (3, 5, 15)), ("u16", (3, 5))):
         for side in sides:
             yield (f"median, box of {side}", kind, RANK, (side * side + 1) // 2, rectangle(side),
-                   lambda f, e, out: cv2.medianBlur(f, len(e), dst=out))
+                   functools.partial(InOpenCV, lambda f, e, out: cv2.medianBlur(f, len(e), dst=out)))
     for name, element in (("disc of 15", disc(15)), ("box of 15", rectangle(15))):
         yield f"opening, {name}", "set", OPEN, 0, element, as_in_opencv(cv2.MORPH_OPEN)
+    if LEPTONICA:
+        yield "opening, box of 15, and Leptonica's", "set", OPEN, 0, rectangle(15), functools.partial(leptonica.Opening, LEPTONICA)
 
 
 def milliseconds(run):
@@ -183,13 +219,13 @@ def tell_times(libraries, side, wanted, rounds):
     each = range(1, len(libraries) + 1) if len(libraries) > 1 else [""]
     print(f"OpenCV {cv2.__version__}, one thread each, {side} x {side}, the best of {rounds} by turns, in milliseconds")
     print("| samples | what |", *(f"libmorphd{f' {it}' if it else ''} |" for it in each), "OpenCV |",
-          *(f"{f'{it} ' if it else ''}times OpenCV's |" for it in each), "the same |")
+          *(f"{f'{it} ' if it else ''}times its |" for it in each), "the same |")
     for name, kind, operation, k, element, theirs in wanted:
-        image, other = images[kind], numpy.zeros_like(images[kind])
-        outs = [numpy.zeros_like(image) for _ in libraries]
+        image = images[kind]
+        outs, other = [numpy.zeros_like(image) for _ in libraries], theirs(image, element)
         runs = [lambda run=flat(it, kind), out=out: run(operation, k, image, element, out) for it, out in zip(libraries, outs)]
-        *mine, its = by_turns([*runs, lambda: theirs(image, element, other)], rounds)
-        same = all(agrees(it, other, element) for it in outs)
+        *mine, its = by_turns([*runs, other], rounds)
+        same = all(agrees(it, other.result(), element) for it in outs)
         print(f"| {kind} | {name} |", *(f"{it:.1f} |" for it in mine), f"{its:.1f} |", *(f"{it / its:.2f} |" for it in mine),
               f"{same} |", flush=True)
 

@@ -1,9 +1,9 @@
 """What the wrong bodies of a crate were refused over, as a sum, for checks/wrong_bodies.py.
 
-A crate's sum covers its own src/, specs/, proofs/ and wrong-bodies/, its row of crates.txt, the kit, and of each crate that it stands
-on what a caller sees: its specs/, and its src/ without bodies and without the functions that no other crate can call. Comments are
-not in it, nor is what `rt fmt` may change of code once a name is longer: ends of lines, commas before a closing bracket, and the order
-of `use` and `mod`.
+A crate's sum covers its own src/, specs/, proofs/ and wrong-bodies/, its row of crates.txt, the logic of the kit, and of each crate
+that it stands on what a caller sees: its specs/, and its src/ without bodies and without the functions that no other crate can call.
+Comments are not in it, nor is what `rt fmt` may change of code once a name is longer: ends of lines, commas before a closing bracket,
+and the order of `use` and `mod`.
 
 Names can be mapped back to what they were before: then the sum is that of the text before they were changed.
 """
@@ -187,8 +187,8 @@ def digest(parts):
 class Sums:
     """The sums of the crates of a repository as it stands, or as it was before names were changed; `names` has the old ones of these."""
 
-    def __init__(self, root, rows, kit, names=None):
-        self.root, self.rows, self.kit = root, rows, kit
+    def __init__(self, root, rows, logic, names=None):
+        self.root, self.rows, self.logic = root, rows, logic
         # Names that are new in some files alone have behind them the crates or files, as CRATE or CRATE/src/FILE.rt.
         self.names = {new: old for new, old in (names or {}).items() if isinstance(old, str)}
         self.within = {new: old for new, old in (names or {}).items() if not isinstance(old, str)}
@@ -233,7 +233,7 @@ class Sums:
         """The sum of a crate."""
         below = sorted((self.back(it), self.promise(it)) for it in prove.all_below(name, self.rows))
         row = [self.back(name), *sorted(self.back(it) for it in self.rows[name])]
-        return digest([self.kit, " ".join(row), self.own(name), *(it for pair in below for it in pair)])
+        return digest([self.logic, " ".join(row), self.own(name), *(it for pair in below for it in pair)])
 
     def narrow(self, name):
         """The sum that was taken before: of a crate's own code, definitions and wrong bodies alone, by lines."""

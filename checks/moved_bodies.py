@@ -135,7 +135,7 @@ class Tree:
 
     def __init__(self, root, as_one):
         self.root, self.as_one, self.rows = root, as_one, prove.needs_by_crate(root)
-        self.sums = crate_sums.Sums(root, self.rows, prove.kit())
+        self.sums = crate_sums.Sums(root, self.rows, prove.logic())
 
     def edits(self, name):
         """The turned and the new texts of each of a crate's wrong bodies."""

@@ -113,6 +113,11 @@ def kit():
     return subprocess.run(["rt", "version"], check=True, capture_output=True, text=True).stdout.strip()
 
 
+def logic():
+    """What the kit takes for a proof, which is the same in kits that differ in tools alone; all of `rt version` where that names none."""
+    return kit().partition(" logic ")[2] or kit()
+
+
 @functools.cache
 def times():
     """Of each crate that was timed, the seconds of its proof and of its tests' check."""

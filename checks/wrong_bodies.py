@@ -42,13 +42,11 @@ FOLDER, GATE = crate_sums.EDITS, "must-fail"
 KEPT = f"{ROOT}/checks/wrong_bodies.txt"
 HEAD = """# Of each crate how many wrong bodies it has, and the sum of what all of them were refused over (checks/crate_sums.py).
 # `widened` stands behind a row that was taken over from a sum of the crate's own code, definitions and wrong bodies: these are known
-# to be as they were when all were refused. The rest that the sum covers (its proofs, its row of crates.txt, the kit, and what the crates
+# to be as they were when all were refused. The rest that the sum covers (its proofs, its row of crates.txt, the kit's logic, and what the crates
 # below promise) is as it was when the row was taken over. `moved` stands where text moved between crates since all were refused
 # (checks/moved_bodies.py). `due` stands where a crate, or what it stands on, came to say the same in other words, and its wrong bodies
 # were not tried since: a run without names tries them. To try the crate takes these words away.
 """
-# What `rt ci` said last, and what it says where it can keep nothing.
-LOG, KEEPS_NOTHING = f"{ROOT}/out/ci.log", "so nothing is kept"
 # How many wrong bodies `--few` draws at most, and the seconds of proofs that it may take, by the times of checks/proof_times.txt.
 FEW, SECONDS = 3, 150
 # A check that begins from nothing reads the libraries first: no crate is taken to cost less, or it would be drawn in each run.
@@ -104,7 +102,7 @@ def write(kept):
 
 
 def sums_now(names=None):
-    return crate_sums.Sums(ROOT, prove.needs_by_crate(), prove.kit(), names)
+    return crate_sums.Sums(ROOT, prove.needs_by_crate(), prove.logic(), names)
 
 
 def keep(name, sums):
@@ -204,12 +202,12 @@ def drawn(costs, seed):
     return [(it, chance.random()) for it in found]
 
 
-def few_laid_out(edits, room):
+def few_laid_out(names, edits, room):
     """A repository of some crates and those below them, with these wrong bodies as all that the gate tries."""
     needs = prove.needs_by_crate()
-    names = {*edits, *(low for it in edits for low in prove.all_below(it, needs))}
+    every = {*names, *(low for it in names for low in prove.all_below(it, needs))}
     os.mkdir(f"{room}/.git")
-    for name in names:
+    for name in every:
         for part in prove.PARTS:
             if os.path.isdir(f"{home_of(name)}/{part}"):
                 shutil.copytree(f"{home_of(name)}/{part}", f"{room}/crates/{name}/{part}")
@@ -219,7 +217,21 @@ def few_laid_out(edits, room):
     if os.path.isfile(f"{ROOT}/HANDLES"):
         shutil.copy(f"{ROOT}/HANDLES", room)
     with open(f"{room}/crates.txt", "w", encoding="utf-8") as file:
-        file.writelines(prove.rows_of(names))
+        file.writelines(prove.rows_of(every))
+
+
+def gate_over(names, edits):
+    """What `rt ci` says of some crates and those below them, and of these wrong bodies alone."""
+    with tempfile.TemporaryDirectory(prefix="few-") as room:
+        few_laid_out(names, edits, room)
+        how = {"capture_output": True, "text": True, "errors": "replace", "check": False}
+        return subprocess.run(["rt", "ci"], cwd=room, stdin=subprocess.DEVNULL, **how)
+
+
+def keeps_proofs():
+    """Whether `rt ci` finds on this machine what an earlier run proved, which not every kit can: it is asked of the cheapest crate."""
+    least = min((it for it, below in prove.needs_by_crate().items() if not below), key=lambda it: (prove.times().get(it, (0, 0))[0], it))
+    return bool(re.search(rf"^rt: {least} is kept: ", gate_over([least], {}).stdout, re.M))
 
 
 def commit():
@@ -230,7 +242,7 @@ def commit():
 
 def try_few():
     """Tries a few wrong bodies, over what `rt ci` kept: then that of each crate takes one check of the crate."""
-    if KEEPS_NOTHING in prove.text(LOG):
+    if not keeps_proofs():
         print("no wrong body is tried: rt ci keeps nothing on this machine, so all crates would be proved once more")
         return 0
     every = {it: edits_in(home_of(it), FOLDER) for it in prove.needs_by_crate()}
@@ -238,10 +250,7 @@ def try_few():
     edits = {name: every[name][int(at * len(every[name]))] for name, at in drawn(costs, commit())}
     names = [f"{name}/{os.path.basename(edit)}" for name, edit in edits.items()]
     print(f"of {sum(map(len, every.values()))} wrong bodies these are drawn: {', '.join(names)}", flush=True)
-    with tempfile.TemporaryDirectory(prefix="few-") as room:
-        few_laid_out(edits, room)
-        how = {"capture_output": True, "text": True, "errors": "replace", "check": False}
-        ran = subprocess.run(["rt", "ci"], cwd=room, stdin=subprocess.DEVNULL, **how)
+    ran = gate_over(edits, edits)
     refused = [it for it in names if re.search(rf"^rt: must-fail {re.escape(it)}: refused\b", ran.stdout, re.M)]
     if ran.returncode or refused != names:
         print(ran.stdout + ran.stderr)

@@ -1,7 +1,6 @@
 -- Differences of images, in strips.
 use Rattle.std.proofs.Common.{◌≡◌, ℕ, ◌+◌, ◌-◌, ◌*◌, ◌/◌, ◌<◌, ◌≤◌, List, [], ◌∷◌, map, length, get_or, take, drop, refl, ap, sym, arith, ◌∙◌}
 use Rattle.std.specs.Prelude.{slice_range}
-use Rattle.std.proofs.lemmas.List.{drop-map, take-map}
 use Rattle.std.proofs.lemmas.Nat.{le-div, mul-add-lt, mul-le}
 use Rattle.std.proofs.lemmas.Simd.{get_or-zip2, length-zip2}
 use Rattle.std.proofs.Math.Nat.{div-mul-le_self, mul_comm}
@@ -23,7 +22,7 @@ use Rattle.mw_c_lent.specs.InPlace.{IsWholeView}
 use Rattle.mw_c_lent.specs.Recipes.{recipe_picture}
 use Rattle.mw_c_lent.specs.Rows.{IsStrip}
 use Rattle.mw_c_lent.specs.Slides.{slide_box, slide_picture, slide_value, steps_picture}
-use Rattle.mw_c_lent.proofs.Rows.{rows_are}
+use Rattle.mw_c_lent.proofs.Rows.{rows_of_cells}
 use Rattle.mw_c_lent.proofs.Slid.{alike_strip, slide_shape, slide_there, steps_shape, steps_size}
 use Rattle.mw_c_lent.proofs.UnderBoxes.{made_whole}
 
@@ -79,13 +78,7 @@ strip_less level f g r new first second strip is one two =
 
 -- a strip of the samples of a whole view
 pub strip_of_view : {A : Type 0} (level : A → ℕ) (w : View A) (f : Picture) (r : Rect) → IsWholeView level w f → IsStrip r f → map level (slice_range w.cells (r.y * r.width) (r.y * r.width + r.height * r.width)) ≡ cells_in r (sample f)
-strip_of_view level w f r whole strip =
-    range_map level (r.y * r.width) (r.y * r.width + r.height * r.width) w.cells
-    ∙ ap (λ (t : List ℕ). slice_range t (r.y * r.width) (r.y * r.width + r.height * r.width)) whole.samples
-    ∙ rows_are f r strip whole.size
-  where
-    range_map : {B : Type 0} (h : B → ℕ) (a b : ℕ) (xs : List B) → map h (slice_range xs a b) ≡ slice_range (map h xs) a b
-    range_map h a b xs = sym (take-map h (b - a) (drop a xs)) ∙ ap (λ (t : List ℕ). take (b - a) t) (sym (drop-map h a xs))
+strip_of_view level w f r whole strip = rows_of_cells level f r w.cells strip whole.size whole.samples
 
 -- ---- one extremum
 

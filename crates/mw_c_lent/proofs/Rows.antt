@@ -1,7 +1,7 @@
 -- Rows of images: the samples of a strip, how many there are, and levels of cells.
 use Rattle.std.proofs.Common.{◌≡◌, ℕ, ◌+◌, ◌-◌, ◌*◌, ◌<◌, ◌≤◌, List, [], ◌∷◌, map, length, get_or, take, drop, ap, sym, arith, ◌∙◌, length-take, length-drop, get_or-take, get_or-drop}
 use Rattle.std.specs.Prelude.{slice_range}
-use Rattle.std.proofs.lemmas.List.{get_or-map}
+use Rattle.std.proofs.lemmas.List.{drop-map, get_or-map, take-map}
 use Rattle.std.proofs.lemmas.Nat.{mul-le, mul-add-lt}
 use Rattle.std.proofs.Math.Nat.{mul_comm}
 use Rattle.mw_model.specs.declared.offsets.Reach.{Reach}
@@ -42,6 +42,17 @@ rows_are f r strip size =
       where
         place : (y j w i x m : ℕ) → x ≡ 0 → w ≡ m → y * w + (j * w + i) ≡ (y + j) * m + (x + i)
         place y j w i x m left wide = rw (left, sym wide) (omega arith)
+
+-- of cells that are all of an image's
+pub rows_of_cells : {A : Type 0} (level : A → ℕ) (f : Picture) (r : Rect) (cells : List A) → IsStrip r f → length f.samples ≡ f.height * f.width → map level cells ≡ f.samples
+    → map level (slice_range cells (r.y * r.width) (r.y * r.width + r.height * r.width)) ≡ cells_in r (sample f)
+rows_of_cells {A} level f r cells strip size is =
+    range_map level (r.y * r.width) (r.y * r.width + r.height * r.width) cells
+    ∙ ap (λ (t : List ℕ). slice_range t (r.y * r.width) (r.y * r.width + r.height * r.width)) is
+    ∙ rows_are f r strip size
+  where
+    range_map : {B : Type 0} (h : B → ℕ) (a b : ℕ) (xs : List B) → map h (slice_range xs a b) ≡ slice_range (map h xs) a b
+    range_map h a b xs = sym (take-map h (b - a) (drop a xs)) ∙ ap (λ (t : List ℕ). take (b - a) t) (sym (drop-map h a xs))
 
 -- what is read for a strip is a strip
 pub read_strip : (m n : ℕ) (r : Rect) (reach : Reach) (f : Picture) → m ≡ f.width → n ≡ f.height → IsStrip r f → IsStrip (grown m n reach r) f
@@ -85,3 +96,14 @@ pub length-rows_from : (first end count : ℕ) (f : Picture) → length f.sample
 length-rows_from first end count f size ends =
     let all : end * f.width ≤ f.height * f.width = mul-le end f.width f.height f.width ends.within (omega arith) in
     omega (arith, length-take count (drop (first * f.width) f.samples), length-drop (first * f.width) f.samples, all, ends.samples, size)
+
+-- the rows of a strip are so many samples
+pub rows_end : (r : Rect) (f : Picture) (n : ℕ) → IsStrip r f → n ≡ r.height * r.width → EndAt r.y (r.y + r.height) n f
+rows_end r f n strip is = record {
+  some = omega (arith, strip.some);
+  within = strip.low;
+  samples = split r.y r.height f.width ∙ ap (λ (t : ℕ). r.y * f.width + r.height * t) (sym strip.wide) ∙ ap (λ (t : ℕ). r.y * f.width + t) (sym is);
+}
+  where
+    split : (a b w : ℕ) → (a + b) * w ≡ a * w + b * w
+    split a b w = omega arith

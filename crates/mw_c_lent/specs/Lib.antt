@@ -1,5 +1,6 @@
 pub mod Boxes
 pub mod InPlace
+pub mod InTurn
 pub mod Levels
 pub mod Narrow
 pub mod Recipes

@@ -6,6 +6,7 @@
 //! if let Some(middle) = middle_of(Rule::LeastBox(b), f, 0, 480) {
 //!     if put_middle(alloc, middle, &mut out)? { .. }      // these rows of the erosion stand
 //! }
+//! if put_middle_in_turn(alloc, Rule::Least(&element), middle, &mut out)? { .. }      // and these of an opening
 //! if put_two_steps(alloc, Rule::LeastBox(b), Rule::GreatestBox(turned), f, &mut out)? { .. }      // the opening stands
 //! if put_difference(alloc, Rule::GreatestBox(b), Rule::LeastBox(b), f, &mut out)? { .. }      // the gradient stands
 //! ```
@@ -15,6 +16,7 @@ mod differences;
 mod filters;
 mod gradients;
 mod in_place;
+mod in_turn;
 mod lendable;
 mod recipes;
 mod rules;
@@ -25,8 +27,10 @@ mod two_steps;
 
 pub use filters::{put_difference, put_two_steps, put_what_is_added, put_what_is_taken};
 pub use in_place::{Middle, middle_of, put_middle};
+pub use in_turn::put_middle_in_turn;
 pub use lendable::Lendable;
 pub use mw_c_arrays::ArrayImage;
 pub use mw_element::Element;
+pub use mw_line_lent::copies;
 pub use mw_model::NoMemory;
 pub use rules::Rule;

@@ -6,7 +6,7 @@ ghost use Rattle.mw_model.specs.Rectangles.{span};
 use mw_model::OffsetBox;
 
 /// How many columns a box has.
-pub fn columns(offsets: OffsetBox) -> usize
+pub(crate) fn columns(offsets: OffsetBox) -> usize
     ensures { result ≡ span offsets.x0 offsets.x1 }
 {
     if offsets.x1 < offsets.x0 {
@@ -16,7 +16,7 @@ pub fn columns(offsets: OffsetBox) -> usize
 }
 
 /// How many rows a box has.
-pub fn rows(offsets: OffsetBox) -> usize
+pub(crate) fn rows(offsets: OffsetBox) -> usize
     ensures { result ≡ span offsets.y0 offsets.y1 }
 {
     if offsets.y1 < offsets.y0 {

@@ -16,6 +16,5 @@ mod boxes;
 mod by_pixel;
 mod levels;
 
-pub use boxes::{columns, rows};
 pub use by_pixel::made_at;
 pub use levels::{Between, Levels};

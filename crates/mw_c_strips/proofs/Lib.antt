@@ -3,5 +3,6 @@ mod Filtered
 mod Gathered
 mod InPlace
 mod PixelValues
+mod Placed
 mod Refilled
 mod SomeRows

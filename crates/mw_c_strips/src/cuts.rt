@@ -7,7 +7,6 @@ ghost use Rattle.mw_c_layers.specs.Parts.{IsStrip};
 use mw_c_arrays::ArrayImage;
 use mw_c_layers::{Formula, Layer, Origin, origin_of};
 use mw_c_lent::Rule;
-use mw_c_places::{columns, rows};
 use mw_element::Element;
 use mw_model::{OffsetBox, Rect};
 use std::alloc::Global;
@@ -131,34 +130,37 @@ fn rows_of_steps(second: Rule<'_>, first: Rule<'_>, row_size: u32) -> u32
 /// Planes of so many bytes stay near the processor, and are made sooner than strips that overlap.
 const SMALL_PLANE: u32 = 2097152;
 
-/// So few offsets are merged sooner where rows stand, as those of a plane do. Strips that overlap by more rows than this lose by it.
-const FEW: usize = 64;
+/// In frames of so many columns and rows kernels write strips where they are to stand, of elements that look so many rows beyond a place
+/// at most: sooner than by way of a plane, however small it is.
+const COLUMNS: u32 = 128;
 
-const NEAR: u32 = 16;
+const ROWS: u32 = 64;
 
-/// Whether a box has few offsets.
-fn is_few(offsets: OffsetBox) -> bool {
-    let wide = columns(offsets);
-    let high = rows(offsets);
-    wide <= FEW && high <= FEW && wide * high <= FEW
-}
+const BEYOND: u32 = 128;
 
-/// Whether a rule is an extremum under few offsets.
-fn is_of_few(rule: Rule<'_>) -> bool {
+/// Whether a rule is an extremum under an element.
+fn is_under(rule: Rule<'_>) -> bool {
     match rule {
-        Rule::Least(element) => element.offsets().len() <= FEW,
-        Rule::Greatest(element) => element.offsets().len() <= FEW,
-        Rule::LeastBox(offsets) => is_few(offsets),
-        Rule::GreatestBox(offsets) => is_few(offsets),
+        Rule::Least(_) => true,
+        Rule::Greatest(_) => true,
+        Rule::LeastBox(_) => false,
+        Rule::GreatestBox(_) => false,
         Rule::Nth(_, _) => false,
         Rule::AtLeast(_) => false,
     }
 }
 
-/// Whether two steps are made by strips: where a plane between them is large, and takes more memory.
+/// Whether two steps are extrema for which kernels may write strips where they are to stand.
+fn may_stand(second: Rule<'_>, first: Rule<'_>, f: ArrayImage<'_>) -> bool {
+    let is_large = f.width() >= COLUMNS && f.height() >= ROWS;
+    let is_low = rows_beyond(second) <= BEYOND;
+    is_large && is_low && is_under(first) && is_under(second)
+}
+
+/// Whether two steps are made by strips: where kernels may write these, or a plane between the two is large, and takes more memory.
 pub(crate) fn are_by_strips(second: Rule<'_>, first: Rule<'_>, f: ArrayImage<'_>) -> bool {
-    if is_of_few(second) && rows_beyond(second) > NEAR {
-        return false;
+    if may_stand(second, first, f) {
+        return true;
     }
     let row_size = row_size(Origin::Array(f));
     let rows = rows_of_steps(second, first, row_size);

@@ -14,6 +14,7 @@ ghost use Rattle.mw_c_strips.specs.Rows.{AreRows, EndAt, rows_from};
 use crate::Sample;
 use crate::by_pixel::level_at;
 use crate::cuts::{ask_once, rows_of, strip_from};
+use crate::placing::put_in_place;
 use mw_c_layers::{Formula, Layer, Origin, origin_of, strip_of};
 use mw_c_lent::{Middle, middle_of, put_middle};
 use mw_model::{NoMemory, Rect};
@@ -76,6 +77,50 @@ fn put_rows<P: Sample>(image: &Image, strip: Rect, done: u32, out: &mut [P])
     P::put(image, &mut out[start..start + count]);
 }
 
+/// Writes the rows of a strip behind so many rows that are done, if there are kernels for that.
+fn put_standing<P: Sample>(
+    alloc: Global,
+    formula: Formula<'_>,
+    strip: Rect,
+    done: u32,
+    out: &mut [P],
+) -> Result<bool, NoMemory>
+    requires sound { IsFormula formula }
+    requires strip { IsStrip strip (formula_picture formula) }
+    requires room { done * strip.width + strip.height * strip.width ≤ length out.old }
+    ensures made { IfOk result (λ is. is ≡ true → (first : ℕ) → strip.y ≡ first + done → HasImageRows P.level (formula_picture formula.entry) first strip.y out.old → HasImageRows P.level (formula_picture formula.entry) first (strip.y + strip.height) out.new) }
+    ensures left_out { IfOk result (λ is. is ≡ false → out.new ≡ out.old) }
+    ensures kept { IfErr result (λ _. out.new ≡ out.old) }
+{
+    let start = done as usize * strip.width as usize;
+    let count = strip.height as usize * strip.width as usize;
+    let end = start + count;
+    put_in_place(alloc, formula, strip, &mut out[start..end])
+}
+
+/// Writes the rows of a strip behind so many rows that are done: where they are to stand, or by an image of them.
+fn put_made<P: Sample>(
+    alloc: Global,
+    formula: Formula<'_>,
+    strip: Rect,
+    done: u32,
+    out: &mut [P],
+) -> Result<(), NoMemory>
+    requires sound { IsFormula formula }
+    requires strip { IsStrip strip (formula_picture formula) }
+    requires stands { P.stands (formula_picture formula).maxval }
+    requires room { done * strip.width + strip.height * strip.width ≤ length out.old }
+    ensures made { IfOk result (λ _. (first : ℕ) → strip.y ≡ first + done → HasImageRows P.level (formula_picture formula.entry) first strip.y out.old → HasImageRows P.level (formula_picture formula.entry) first (strip.y + strip.height) out.new) }
+    ensures kept { IfErr result (λ _. out.new ≡ out.old) }
+{
+    if put_standing(alloc, formula, strip, done, out)? {
+        return Ok(());
+    }
+    let image = strip_of(alloc, formula, strip)?;
+    put_rows(&image, strip, done, out);
+    Ok(())
+}
+
 /// Writes the rows of a strip, place by place where memory is refused. The array begins with row `first`.
 fn put_strip<P: Sample>(alloc: Global, formula: Formula<'_>, strip: Rect, first: u32, out: &mut [P])
     requires sound { IsFormula formula }
@@ -86,8 +131,8 @@ fn put_strip<P: Sample>(alloc: Global, formula: Formula<'_>, strip: Rect, first:
     requires before { HasImageRows P.level (formula_picture formula) first strip.y out.old }
     ensures { HasImageRows P.level (formula_picture formula.entry) first (strip.y + strip.height) out.new }
 {
-    match strip_of(alloc, formula, strip) {
-        Ok(image) => put_rows(&image, strip, strip.y - first, out),
+    match put_made(alloc, formula, strip, strip.y - first, out) {
+        Ok(()) => (),
         Err(NoMemory) => put_by_pixel(formula, strip, first, out),
     }
 }
@@ -162,11 +207,7 @@ fn put_strips<P: Sample>(
     let rows = rows_of(formula);
     ask_once(alloc, rows, end - first);
     let strip = strip_from(rows, width, end, first);
-    {
-        // given back before the next strip
-        let image = strip_of(alloc, formula, strip)?;
-        put_rows(&image, strip, 0, out);
-    }
+    put_made(alloc, formula, strip, 0, out)?;
     let done = first + strip.height;
     put_rest(alloc, formula, first, done, end, out);
     Ok(())

@@ -4,23 +4,22 @@ use Rattle.mw_c_layers.specs.Origins.{origin_picture}
 use Rattle.mw_c_layers.specs.Layers.{formula_picture}
 use Rattle.mw_c_layers.specs.Parts.{HasImageRows}
 use Rattle.mw_c_strips.specs.Rows.{EndAt, rows_from}
-use Rattle.mw_c_layers.proofs.Formulas.{formula_frame, formula_is_picture, formula_sides}
+use Rattle.mw_c_layers.proofs.Formulas.{formula_frame, formula_sides}
 use Rattle.mw_c_strips.proofs.SomeRows.{room_behind, strip_room}
 use Rattle.mw_c_lent.proofs.Written.{no_rows}
-use Rattle.mw_c_layers.proofs.RowCells.{part_size, part_top}
 use Rattle.mw_c_strips.proofs.writing.put_strips.Goals as goal
 
 pub strip_from-strip-requires : goal.strip_from-strip-requires
 strip_from-strip-requires g c = record { some = omega (arith, c.rows_of-rows.ensures); within = c.requires.ends.some }
 
-pub strip_of-requires : goal.strip_of-requires
-strip_of-requires g c =
+pub put_made-requires-clause-strip : goal.put_made-requires-clause-strip
+put_made-requires-clause-strip g c =
     let f = formula_picture c.args.formula in
     let wide : c.width-width.result ≡ f.width = c.width-width.ensures ∙ ap (λ (s : Origin). (origin_picture s).width) c.first_origin-f.ensures ∙ sym (formula_frame c.args.formula).0 in
-    record { sound = c.requires.sound; strip = c.strip_from-strip.ensures.strip f wide c.requires.ends.within }
+    c.strip_from-strip.ensures.strip f wide c.requires.ends.within
 
-pub put_rows-requires : goal.put_rows-requires
-put_rows-requires g c =
+pub put_made-requires-clause-room : goal.put_made-requires-clause-room
+put_made-requires-clause-room g c =
     let f = formula_picture c.args.formula in
     let r = c.strip_from-strip.result in
     let first = c.args.first in
@@ -28,11 +27,7 @@ put_rows-requires g c =
     let wide : c.width-width.result ≡ f.width = c.width-width.ensures ∙ ap (λ (s : Origin). (origin_picture s).width) c.first_origin-f.ensures ∙ sym (formula_frame c.args.formula).0 in
     let strip = c.strip_from-strip.ensures.strip f wide c.requires.ends.within in
     let row : r.y ≡ first + 0 = omega (arith, c.strip_from-strip.ensures.place) in
-    record {
-      size = part_size f c.in_ok-image.image r c.in_ok-image.ensures;
-      stands = subst (λ (m : ℕ). g.P.Sample.stands m) (sym (part_top f c.in_ok-image.image r c.in_ok-image.ensures)) c.requires.stands;
-      room = room_behind first 0 r.y r.height r.width count row (strip_room first c.args.end count f r strip c.requires.ends c.strip_from-strip.ensures.before);
-    }
+    room_behind first 0 r.y r.height r.width count row (strip_room first c.args.end count f r strip c.requires.ends c.strip_from-strip.ensures.before)
 
 pub overflow_add-done : goal.overflow_add-done
 overflow_add-done g c =
@@ -48,15 +43,15 @@ put_rest-requires g c =
     let place : r.y ≡ first = c.strip_from-strip.ensures.place in
     let strip = c.strip_from-strip.ensures.strip f wide c.requires.ends.within in
     let row : r.y ≡ first + 0 = omega (arith, place) in
-    let rows = c.put_rows.ensures f first c.in_ok-image.ensures strip (formula_is_picture c.args.formula c.requires.sound).size row (no_rows g.P.Pixel.level f first r.y c.args.out.now place) in
+    let rows = c.in_ok-put_made.ensures.made first row (no_rows g.P.Pixel.level f first r.y c.args.out.now place) in
     record {
       sound = c.requires.sound;
       behind = omega arith;
       within = omega (arith, c.strip_from-strip.ensures.before, place);
-      ends = subst (λ (n : ℕ). EndAt first c.args.end n f) (sym c.put_rows.auto.out) c.requires.ends;
+      ends = subst (λ (n : ℕ). EndAt first c.args.end n f) (sym c.put_made.auto.out) c.requires.ends;
       stands = c.requires.stands;
-      before = subst (λ (n : ℕ). HasImageRows g.P.Pixel.level f first (n + r.height) c.put_rows.new.out) place rows;
+      before = subst (λ (n : ℕ). HasImageRows g.P.Pixel.level f first (n + r.height) c.put_made.new.out) place rows;
     }
 
 pub returns-clause-made : goal.returns-clause-made
-returns-clause-made g c = c.put_rest.ensures ∙ ap (λ (n : ℕ). rows_from c.args.first n (formula_picture c.args.formula)) c.put_rows.auto.out
+returns-clause-made g c = c.put_rest.ensures ∙ ap (λ (n : ℕ). rows_from c.args.first n (formula_picture c.args.formula)) c.put_made.auto.out

@@ -1,0 +1,36 @@
+-- Extrema under elements of any shape, one after the other (own).
+use Rattle.std.specs.Prelude.{◌≡◌, ℕ, ◌-◌, List, [], ⊤}
+use Rattle.std.specs.Arc.{arc_value}
+use Rattle.mw_model.specs.declared.offsets.Offset.{Offset}
+use Rattle.mw_model.specs.declared.offsets.Reach.{Reach}
+use Rattle.mw_model.specs.declared.offsets.Rect.{Rect}
+use Rattle.mw_model.specs.Flat.{greatest, least}
+use Rattle.mw_model.specs.Rectangles.{WithinReach, grown, rect}
+use Rattle.mw_c_arrays.specs.Sources.{picture_in}
+use Rattle.mw_c_lent.specs.declared.in_place.Middle.{Middle}
+use Rattle.mw_c_lent.specs.declared.rules.Rule.{Rule}
+use Rattle.mw_c_lent.specs.declared.rules.Rule.TheVariants as rule
+
+-- the rule is an extremum under an element
+abbrev pub IsElementRule : Rule → Type 0
+IsElementRule (rule.Least e) = ⊤
+IsElementRule (rule.Greatest e) = ⊤
+IsElementRule r = ⊥
+
+-- the offsets of its element
+abbrev pub rule_offsets : Rule → List Offset
+rule_offsets (rule.Least e) = (arc_value e.now).offsets
+rule_offsets (rule.Greatest e) = (arc_value e.now).offsets
+rule_offsets r = []
+
+-- the extremum of levels, where the least of none is the top
+abbrev pub rule_value : ℕ → Rule → List ℕ → ℕ
+rule_value top (rule.Least e) ns = least top ns
+rule_value top r ns = greatest ns
+
+-- the strip has the rows, and the place all that their extremum looks at
+pub record StandsAround (m : Middle) (strip place : Rect) : Type 0 where
+  pub rows : strip ≡ rect 0 m.from (picture_in m.f).width (m.to - m.from)
+  pub reach : Reach
+  pub within : WithinReach reach (rule_offsets m.rule)
+  pub seen : place ≡ grown (picture_in m.f).width (picture_in m.f).height reach strip
