@@ -32,6 +32,14 @@ static uint8_t *element(int across, int is_disc) {
     return made;
 }
 
+// The diagonal of a square.
+static uint8_t *diagonal(int across) {
+    uint8_t *made = calloc((size_t)across, (size_t)across);
+    if (made == NULL) exit(2);
+    for (int i = 0; i < across; i++) made[i * across + i] = 1;
+    return made;
+}
+
 static void done(int32_t answer) {
     if (answer != MORPHD_DONE) {
         fprintf(stderr, "answer %d\n", answer);
@@ -90,6 +98,20 @@ static void standing_rows(void) {
     flat_u8(MORPHD_ERODE, 0, (sides){WIDE, HIGH, 31}, samples, element(31, 1), out);
 }
 
+// Openings, top-hats and gradients by crosses, discs and slanted lines: strips of two extrema, of which the first's rows are moved on to the
+// next strip.
+static void composites(void) {
+    size_t count = (size_t)WIDE * HIGH;
+    uint8_t *samples = bytes(count, 256), *out = bytes(count, 256);
+    uint8_t *cross = element(3, 1), *disc = element(5, 1), *large = element(15, 1), *slanted = diagonal(41);
+    flat_u8(MORPHD_OPEN, 0, (sides){WIDE, HIGH, 3}, samples, cross, out);
+    flat_u8(MORPHD_GRADIENT, 0, (sides){WIDE, HIGH, 3}, samples, cross, out);
+    flat_u8(MORPHD_CLOSE, 0, (sides){WIDE, HIGH, 5}, samples, disc, out);
+    flat_u8(MORPHD_GRADIENT, 0, (sides){WIDE, HIGH, 5}, samples, disc, out);
+    flat_u8(MORPHD_WHITE_TOP_HAT, 0, (sides){WIDE, HIGH, 15}, samples, large, out);
+    flat_u8(MORPHD_OPEN, 0, (sides){WIDE, HIGH, 41}, samples, slanted, out);
+}
+
 // On frames of one row and of few, over and over: what is asked for and filled there.
 static void low_frames(void) {
     sides one = {8192, 1, 15}, few = {65, 64, 9};
@@ -134,7 +156,8 @@ int main(int argc, char **argv) {
         const char *name;
         void (*run)(void);
     } workloads[] = {{"small_calls", small_calls}, {"strips", strips}, {"standing_rows", standing_rows},
-                     {"low_frames", low_frames}, {"set_strips", set_strips}, {"rows", rows}, {"iterated", iterated}};
+                     {"composites", composites}, {"low_frames", low_frames}, {"set_strips", set_strips}, {"rows", rows},
+                     {"iterated", iterated}};
     for (size_t i = 0; argc == 2 && i < sizeof workloads / sizeof *workloads; i++)
         if (strcmp(argv[1], workloads[i].name) == 0) {
             workloads[i].run();

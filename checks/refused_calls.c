@@ -10,12 +10,12 @@
 #define WIDE 8192
 #define HIGH 160
 #define MOST (WIDE * HIGH)
-#define OPERATORS 19
-#define CALLS 55
+#define OPERATORS 23
+#define CALLS 59
 /* Of those that go by strips, all but the rank: without memory that takes long; and what grains are measured by, by kernels. */
-#define ON_WIDE(number) (((number) < 7 && (number) != 2) || ((number) >= OPERATORS && (number) < FIRST_OF_PLAIN))
+#define ON_WIDE(number) (((number) < 11 && (number) != 6) || ((number) >= OPERATORS && (number) < FIRST_OF_PLAIN))
 /* From here on the element is one that only the slow programs take. */
-#define FIRST_OF_PLAIN 44
+#define FIRST_OF_PLAIN 48
 
 void *__real_malloc(size_t size);
 void *__real_realloc(void *old, size_t size);
@@ -73,24 +73,28 @@ static uint32_t told, told_first;
 static int32_t operator_call(int number) {
     size_t count = (size_t)width * height;
     switch (number) {
-    case 0: return morphd_flat_u8(MORPHD_ERODE, 0, width, height, 255, bytes, count, BOX, out.bytes, count);
-    case 1: return morphd_flat_u8(MORPHD_BLACK_TOP_HAT, 0, width, height, 255, bytes, count, BOX, out.bytes, count);
-    case 2: return morphd_flat_u8(MORPHD_RANK, 5, width, height, 255, bytes, count, BOX, out.bytes, count);
-    case 3: return morphd_flat_u16(MORPHD_OPEN, 0, width, height, 65535, words, count, BOX, out.words, count);
-    case 4: return morphd_flat_set(MORPHD_CLOSE, 0, width, height, bytes, count, BOX, out.bytes, count);
-    case 5: return morphd_threshold_u8(100, width, height, 255, bytes, count, out.bytes, count);
-    case 6: return morphd_threshold_u16(900, width, height, 65535, words, count, out.bytes, count);
-    case 7: return morphd_hit_or_miss_u8(width, height, 255, bytes, count, BOX, RIGHT, out.bytes, count);
-    case 8: return morphd_hit_or_miss_u16(width, height, 65535, words, count, BOX, RIGHT, out.words, count);
-    case 9: return morphd_hit_or_miss_set(width, height, bytes, count, BOX, RIGHT, out.bytes, count);
-    case 10: return morphd_skeleton(2, width, height, bytes, count, BOX, out.bytes, count);
-    case 11: return morphd_restore_u8(2, width, height, 255, bytes, count, BOX, out.bytes, count);
-    case 12: return morphd_restore_u16(2, width, height, 65535, words, count, BOX, out.bytes, count);
-    case 13: return morphd_spectrum_u8(3, width, height, 255, bytes, count, BOX, out.volumes, 4);
-    case 14: return morphd_spectrum_u16(3, width, height, 65535, words, count, BOX, out.volumes, 4);
-    case 15: return morphd_spectrum_set(3, width, height, bytes, count, BOX, out.volumes, 4);
-    case 16: return morphd_flat_rows_u8(MORPHD_ERODE, 0, 3, width, height, 255, bytes, count, BOX, out.bytes, 4 * width);
-    case 17: return morphd_flat_rows_u16(MORPHD_GRADIENT, 0, 0, width, height, 65535, words, count, BOX, out.words, width);
+    case 0: return morphd_flat_u8(MORPHD_OPEN, 0, width, height, 255, bytes, count, CROSS, out.bytes, count);
+    case 1: return morphd_flat_u16(MORPHD_GRADIENT, 0, width, height, 65535, words, count, CROSS, out.words, count);
+    case 2: return morphd_flat_u16(MORPHD_WHITE_TOP_HAT, 0, width, height, 65535, words, count, CROSS, out.words, count);
+    case 3: return morphd_flat_u8(MORPHD_BLACK_TOP_HAT, 0, width, height, 255, bytes, count, CROSS, out.bytes, count);
+    case 4: return morphd_flat_u8(MORPHD_ERODE, 0, width, height, 255, bytes, count, BOX, out.bytes, count);
+    case 5: return morphd_flat_u8(MORPHD_BLACK_TOP_HAT, 0, width, height, 255, bytes, count, BOX, out.bytes, count);
+    case 6: return morphd_flat_u8(MORPHD_RANK, 5, width, height, 255, bytes, count, BOX, out.bytes, count);
+    case 7: return morphd_flat_u16(MORPHD_OPEN, 0, width, height, 65535, words, count, BOX, out.words, count);
+    case 8: return morphd_flat_set(MORPHD_CLOSE, 0, width, height, bytes, count, BOX, out.bytes, count);
+    case 9: return morphd_threshold_u8(100, width, height, 255, bytes, count, out.bytes, count);
+    case 10: return morphd_threshold_u16(900, width, height, 65535, words, count, out.bytes, count);
+    case 11: return morphd_hit_or_miss_u8(width, height, 255, bytes, count, BOX, RIGHT, out.bytes, count);
+    case 12: return morphd_hit_or_miss_u16(width, height, 65535, words, count, BOX, RIGHT, out.words, count);
+    case 13: return morphd_hit_or_miss_set(width, height, bytes, count, BOX, RIGHT, out.bytes, count);
+    case 14: return morphd_skeleton(2, width, height, bytes, count, BOX, out.bytes, count);
+    case 15: return morphd_restore_u8(2, width, height, 255, bytes, count, BOX, out.bytes, count);
+    case 16: return morphd_restore_u16(2, width, height, 65535, words, count, BOX, out.bytes, count);
+    case 17: return morphd_spectrum_u8(3, width, height, 255, bytes, count, BOX, out.volumes, 4);
+    case 18: return morphd_spectrum_u16(3, width, height, 65535, words, count, BOX, out.volumes, 4);
+    case 19: return morphd_spectrum_set(3, width, height, bytes, count, BOX, out.volumes, 4);
+    case 20: return morphd_flat_rows_u8(MORPHD_ERODE, 0, 3, width, height, 255, bytes, count, BOX, out.bytes, 4 * width);
+    case 21: return morphd_flat_rows_u16(MORPHD_GRADIENT, 0, 0, width, height, 65535, words, count, BOX, out.words, width);
     default: return morphd_flat_rows_set(MORPHD_RANK, 5, 8, width, height, bytes, count, BOX, out.bytes, width);
     }
 }
