@@ -8,7 +8,8 @@
 //! made of cells that are laid out.
 //!
 //! ```text
-//! if offsets_into::<u8, Min>(alloc, &lent, element.offsets(), maxval, tile, &mut out)? { .. }
+//! let mut room = Room::new(alloc);
+//! if offsets_into::<u8, Min>(&mut room, &lent, element.offsets(), maxval, tile, &mut out)? { .. }
 //! ```
 #![tactic(auto)]
 
@@ -30,7 +31,7 @@ mod tiles;
 mod wide;
 mod work;
 
-pub use mw_line_lent::{Laned, LanedExtremum, Max, Min};
+pub use mw_line_lent::{Laned, LanedExtremum, Max, Min, Room};
 pub use mw_model::{NoMemory, Offset};
 pub use mw_tile_lent::{Lent, Rect};
 pub use quick::is_quick;

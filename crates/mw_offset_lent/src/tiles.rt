@@ -13,15 +13,13 @@ use crate::shares::{shares_of, split_of};
 use crate::shifts::best_shift;
 use crate::strips::put_strips;
 use crate::work::{Laid, Work, layout_of, lines_of, standing_of};
-use mw_line::pixel::copies;
-use mw_line_lent::{Laned, LanedExtremum};
+use mw_line_lent::{Laned, LanedExtremum, Room};
 use mw_model::{NoMemory, Offset};
 use mw_tile_lent::{Lent, Rect};
-use std::alloc::Global;
 
 /// Writes all rows of results, for which it wants memory first.
 fn put_tile<P: Laned, E: LanedExtremum<P>>(
-    alloc: Global,
+    room: &mut Room<P>,
     lent: &Lent<P>,
     laid: Laid,
     offsets: &[Offset],
@@ -37,11 +35,12 @@ fn put_tile<P: Laned, E: LanedExtremum<P>>(
     ensures made { IfOk result (λ _. HasSeenRows E.merge neutral (seen_at lent.now) offsets.now laid.tile laid.tile.height out.new) }
     ensures kept { IfErr result (λ _. out.new ≡ out.old) }
 {
+    let alloc = room.alloc;
     let around = laid.around;
     let place = lent.place();
     let stride = place.width as usize;
     let narrow = 4 * P::WIDTH;
-    let lines = lines_of(place, laid, P::WIDTH);
+    let lines = lines_of(place, laid.tile, around, P::WIDTH);
     let standing = standing_of(offsets, lines);
     let places = places_of(alloc, offsets, around, laid.wide)?;
     let there = places_of(alloc, standing, around, stride)?;
@@ -52,7 +51,7 @@ fn put_tile<P: Laned, E: LanedExtremum<P>>(
     let shift = best_shift(all, laid.wide, laid.wide / (2 * P::WIDTH));
     let by_cells = shares_of(alloc, all, shift, laid.wide)?;
     let by_rows = shares_of(alloc, inner, shift, stride)?;
-    let mut cells = copies(alloc, (laid.most + 2 * around.down) * laid.wide, neutral)?;
+    room.hold((laid.most + 2 * around.down) * laid.wide, neutral)?;
     let width = laid.tile.width as usize;
     let work = Work {
         laid,
@@ -62,7 +61,7 @@ fn put_tile<P: Laned, E: LanedExtremum<P>>(
         narrow,
         lines,
     };
-    put_strips::<P, E>(lent, work, neutral, cells.as_mut_slice(), out);
+    put_strips::<P, E>(lent, work, neutral, room.cells.as_mut_slice(), out);
     Ok(())
 }
 
@@ -71,7 +70,7 @@ fn put_tile<P: Laned, E: LanedExtremum<P>>(
 /// lent has all that the frame has under the offsets, this is the extremum over the frame. It may want memory (`NoMemory`), but
 /// only before it writes.
 pub fn offsets_into<P: Laned, E: LanedExtremum<P>>(
-    alloc: Global,
+    room: &mut Room<P>,
     lent: &Lent<P>,
     offsets: &[Offset],
     neutral: P,
@@ -91,7 +90,7 @@ pub fn offsets_into<P: Laned, E: LanedExtremum<P>>(
     if P::WIDTH < 4 || (tile.width as usize) < 2 * P::WIDTH + 8 {
         return Ok(false);
     }
-    let laid = layout_of(lent.place(), tile, around);
-    put_tile::<P, E>(alloc, lent, laid, offsets, neutral, out)?;
+    let laid = layout_of(lent.place(), tile, around, P::WIDTH);
+    put_tile::<P, E>(room, lent, laid, offsets, neutral, out)?;
     Ok(true)
 }

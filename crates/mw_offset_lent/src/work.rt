@@ -26,22 +26,25 @@ pub(crate) struct Laid {
 /// How many cells are laid out at one time, so that they stay in the processor's cache.
 const CELLS: usize = 131072;
 
-/// How many rows of results are laid out at one time: no more than the tile has.
-fn rows_at_once(wide: usize, down: usize, height: u32) -> usize
+/// How many rows of results are laid out at one time: no more than the tile has. Where rows are read in place, cells are wanted for a
+/// few rows and for the edges alone.
+fn rows_at_once(in_place: bool, wide: usize, down: usize, height: u32) -> usize
     requires wide { 0 < wide }
     requires down { down ≤ 64 }
     ensures some { 0 < result }
     ensures few { result ≤ 2 ^ 18 }
 {
-    let most = (CELLS / wide).max(32).max(2 * down);
+    let many = if in_place { 0 } else { CELLS / wide };
+    let most = many.max(32).max(2 * down);
     most.min(height as usize).max(1)
 }
 
 /// How cells are laid out for a tile.
-pub(crate) fn layout_of(place: Rect, tile: Rect, around: Around) -> Laid
+pub(crate) fn layout_of(place: Rect, tile: Rect, around: Around, lanes: usize) -> Laid
     requires across { around.across ≤ 64 }
     requires down { around.down ≤ 64 }
     requires some { 0 < tile.width }
+    requires lanes { lanes ≤ 32 }
     ensures tile { result.tile ≡ tile }
     ensures around { result.around ≡ around }
     ensures column { result.column ≡ pos tile.x -ℤ pos around.across -ℤ pos place.x }
@@ -54,6 +57,7 @@ pub(crate) fn layout_of(place: Rect, tile: Rect, around: Around) -> Laid
     let column = i64::from(tile.x) - around.across as i64 - i64::from(place.x);
     let row = i64::from(tile.y) - around.down as i64 - i64::from(place.y);
     let wide = tile.width as usize + 2 * around.across;
+    let in_place = lines_of(place, tile, around, lanes) > 0;
     Laid {
         tile,
         around,
@@ -61,7 +65,7 @@ pub(crate) fn layout_of(place: Rect, tile: Rect, around: Around) -> Laid
         row,
         wide,
         part: part_of(column, wide, place.width),
-        most: rows_at_once(wide, around.down, tile.height),
+        most: rows_at_once(in_place, wide, around.down, tile.height),
     }
 }
 
@@ -95,16 +99,15 @@ const COLUMNS: u32 = 800;
 const ROWS: u32 = 32;
 
 /// How many rows of a place are read where they stand: all, or none.
-pub(crate) fn lines_of(place: Rect, laid: Laid, lanes: usize) -> usize
+pub(crate) fn lines_of(place: Rect, tile: Rect, around: Around, lanes: usize) -> usize
     requires { lanes ≤ 32 }
     ensures all { result ≤ place.height }
-    ensures left { 0 < result → laid.tile.x ≡ place.x }
-    ensures right { 0 < result → laid.tile.width ≡ place.width }
-    ensures across { 0 < result → laid.around.across ≤ lanes }
-    ensures room { 0 < result → 4 * lanes ≤ laid.tile.width }
+    ensures left { 0 < result → tile.x ≡ place.x }
+    ensures right { 0 < result → tile.width ≡ place.width }
+    ensures across { 0 < result → around.across ≤ lanes }
+    ensures room { 0 < result → 4 * lanes ≤ tile.width }
 {
-    let tile = laid.tile;
-    if laid.around.down > LOW || laid.around.across > lanes {
+    if around.down > LOW || around.across > lanes {
         return 0;
     }
     if tile.x != place.x || tile.width != place.width {
