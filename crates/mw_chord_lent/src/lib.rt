@@ -7,7 +7,8 @@
 //! changes no sample.
 //!
 //! ```text
-//! if chords_into::<u8, Min>(alloc, &lent, element.offsets(), maxval, tile, &mut out)? { .. }
+//! let mut room = Room::new(alloc);
+//! if chords_into::<u8, Min>(&mut room, &lent, element.offsets(), maxval, tile, &mut out)? { .. }
 //! ```
 #![tactic(auto)]
 
@@ -19,7 +20,7 @@ mod layout;
 mod plan;
 mod tiles;
 
-pub use mw_line_lent::{Laned, LanedExtremum, Max, Min};
+pub use mw_line_lent::{Laned, LanedExtremum, Max, Min, Room};
 pub use mw_model::{NoMemory, Offset};
 pub use mw_tile_lent::{Lent, Rect};
 pub use tiles::chords_into;

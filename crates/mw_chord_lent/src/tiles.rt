@@ -13,12 +13,10 @@ ghost use Rattle.mw_chord_lent.specs.Sizes.{AreSizesTo};
 use crate::blocks::{Work, put_blocks};
 use crate::chords::{longest_of, places_of, sizes_of};
 use crate::plan::{Plan, plan_of};
-use mw_line::pixel::copies;
-use mw_line_lent::{Laned, LanedExtremum};
+use mw_line_lent::{Laned, LanedExtremum, Room};
 use mw_model::{NoMemory, Offset};
 use mw_offset::run::{Extent, Run, columns_after, extent_of, rows_after, runs_either_way};
 use mw_tile_lent::{Lent, Rect};
-use std::alloc::Global;
 
 /// How many vectors all lists may have, which are 2 MiB.
 const MOST: usize = 65536;
@@ -59,7 +57,7 @@ fn is_quick(runs: usize, tile: Rect, lanes: usize) -> bool
 
 /// Writes all results of a tile, for which it wants memory first. Says whether it did.
 fn put_tile<P: Laned, E: LanedExtremum<P>>(
-    alloc: Global,
+    room: &mut Room<P>,
     lent: &Lent<P>,
     runs: &[Run],
     extent: Extent,
@@ -82,6 +80,7 @@ fn put_tile<P: Laned, E: LanedExtremum<P>>(
     ensures left_out { IfOk result (λ done. done ≡ false → out.new ≡ out.old) }
     ensures kept { IfErr result (λ _. out.new ≡ out.old) }
 {
+    let alloc = room.alloc;
     let longest = longest_of(runs);
     if longest == 0 || longest > 256 {
         return Ok(false);
@@ -95,7 +94,7 @@ fn put_tile<P: Laned, E: LanedExtremum<P>>(
         return Ok(false);
     }
     let places = places_of(alloc, runs, sizes.as_slice(), extent, plan.wide, plan.span)?;
-    let mut lists = copies(alloc, sizes.len() * plan.span, neutral)?;
+    room.hold(sizes.len() * plan.span, neutral)?;
     let work = Work {
         tile,
         extent,
@@ -103,7 +102,7 @@ fn put_tile<P: Laned, E: LanedExtremum<P>>(
         sizes: sizes.as_slice(),
         places: places.as_slice(),
     };
-    put_blocks::<P, E>(lent, work, neutral, lists.as_mut_slice(), out);
+    put_blocks::<P, E>(lent, work, neutral, room.cells.as_mut_slice(), out);
     Ok(true)
 }
 
@@ -112,7 +111,7 @@ fn put_tile<P: Laned, E: LanedExtremum<P>>(
 /// many runs, where it has 2,048 columns. Says whether it did: where not, it writes nothing. Where what is lent has all that the frame
 /// has under the offsets, this is the extremum over the frame. It may want memory (`NoMemory`), but only before it writes.
 pub fn chords_into<P: Laned, E: LanedExtremum<P>>(
-    alloc: Global,
+    room: &mut Room<P>,
     lent: &Lent<P>,
     offsets: &[Offset],
     neutral: P,
@@ -131,12 +130,12 @@ pub fn chords_into<P: Laned, E: LanedExtremum<P>>(
     if tile.y > u32::MAX - tile.height {
         return Ok(false);
     }
-    let runs = runs_either_way(alloc, offsets)?;
+    let runs = runs_either_way(room.alloc, offsets)?;
     let Some(extent) = extent_of(runs.as_slice()) else {
         return Ok(false);
     };
     if !is_near(extent) || !is_quick(runs.len(), tile, P::WIDTH) {
         return Ok(false);
     }
-    put_tile::<P, E>(alloc, lent, runs.as_slice(), extent, neutral, tile, out)
+    put_tile::<P, E>(room, lent, runs.as_slice(), extent, neutral, tile, out)
 }
