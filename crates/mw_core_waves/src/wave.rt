@@ -11,9 +11,10 @@ ghost use Rattle.mw_core_waves.specs.Jobs.{HandIsMade, IsBoundedJob};
 ghost use Rattle.mw_core_waves.specs.Waves.{Underway, Took};
 ghost use Rattle.mw_core_waves.specs.Work.{Turned};
 
+use crate::crew::WaveSize;
 use crate::job::{WaveTask, answered};
 use crate::shared::{MadeTile, make_by, make_some};
-use crate::worth::is_small;
+use crate::worth::{is_small, task_bytes};
 use crate::{Crew, Pick};
 use mw_core::{Core, Started};
 use mw_step::task::{TaskRefused, TileDone, Work};
@@ -36,8 +37,9 @@ fn start_next<P: Pick>(core: &mut Core, pick: &mut P) -> Started
     core.start(place)
 }
 
-/// Keeps a task that was taken for a wave, or runs it at once where it is worth less than to hand it over.
-fn keep_or_run(alloc: Global, core: &mut Core, jobs: &mut Vec<WaveTask>, work: Work)
+/// Keeps a task that was taken for a wave, or runs it at once where it is worth less than to hand it over. Gives the bytes that
+/// are held for it.
+fn keep_or_run(alloc: Global, core: &mut Core, jobs: &mut Vec<WaveTask>, work: Work) -> u64
     requires room { vec_len jobs.old < vec_capacity jobs.old }
     requires jobs { AllByRecursion IsBoundedJob jobs.old.items }
     requires bounded { AllByRecursion IsBounded work.windows }
@@ -48,28 +50,36 @@ fn keep_or_run(alloc: Global, core: &mut Core, jobs: &mut Vec<WaveTask>, work: W
 {
     if is_small(&work) {
         hand_in(core, mw_step::run(alloc, work));
-        return;
+        return 0;
     }
+    let held = task_bytes(&work);
     jobs.push_reserved(WaveTask::Waits(work));
+    held
 }
 
-/// Takes up to so many ready tasks more, for which there is room. Those that are worth less than to hand them over are run at
+/// Takes ready tasks more, up to this size, for which there is room. Those that are worth less than to hand them over are run at
 /// once.
 fn take_more<P: Pick>(
     alloc: Global,
     core: &mut Core,
     pick: &mut P,
-    most: usize,
+    size: WaveSize,
     jobs: &mut Vec<WaveTask>,
 )
-    requires room { vec_len jobs.old + most ≤ vec_capacity jobs.old }
+    requires room { vec_len jobs.old + size.most ≤ vec_capacity jobs.old }
     requires bounded { AllByRecursion IsBoundedJob jobs.old.items }
     ensures underway { (m : Machine) (old : CoreView) (others : List WaveTask) → Underway m old core.old (others ++ jobs.old.items) 1 → Underway m old core.new (others ++ jobs.new.items) 1 }
     ensures bounded { AllByRecursion IsBoundedJob jobs.new.items }
 {
-    'tasks: for _taken in 0..most {
+    let mut held = 0u64;
+    'tasks: for _taken in 0..size.most {
+        if held >= size.bytes && jobs.len() >= size.least {
+            return;
+        }
         match start_next(core, pick) {
-            Started::Work(work) => keep_or_run(alloc, core, jobs, work),
+            Started::Work(work) => {
+                held = held.saturating_add(keep_or_run(alloc, core, jobs, work));
+            }
             Started::Refused(_) => {}
             Started::Idle => return,
         }
@@ -113,15 +123,15 @@ fn hand_all(alloc: Global, core: &mut Core, jobs: Vec<WaveTask>)
     }
 }
 
-/// Takes a wave of up to so many ready tasks, and none where there is no memory for their list.
-fn take_wave<P: Pick>(alloc: Global, most: usize, core: &mut Core, pick: &mut P) -> Vec<WaveTask>
+/// Takes a wave of ready tasks up to this size, and none where there is no memory for their list.
+fn take_wave<P: Pick>(alloc: Global, size: WaveSize, core: &mut Core, pick: &mut P) -> Vec<WaveTask>
     ensures underway { (m : Machine) (old : CoreView) (others : List WaveTask) → Underway m old core.old others 1 → Underway m old core.new (others ++ result.items) 1 }
     ensures bounded { AllByRecursion IsBoundedJob result.items }
 {
-    let most = core.ready_count().min(most as u64) as usize;
+    let most = core.ready_count().min(size.most as u64) as usize;
     match Vec::with_capacity(alloc, most) {
         Ok(mut jobs) => {
-            take_more(alloc, core, pick, most, &mut jobs);
+            take_more(alloc, core, pick, WaveSize { most, ..size }, &mut jobs);
             jobs
         }
         Err(_) => Vec::new(alloc),
@@ -132,7 +142,7 @@ fn take_wave<P: Pick>(alloc: Global, most: usize, core: &mut Core, pick: &mut P)
 /// that comes next, in its place, and then makes tasks himself.
 fn own_part<P: Pick>(
     alloc: Global,
-    most: usize,
+    size: WaveSize,
     jobs: &[WaveTask],
     begun: &AtomicUsize,
     core: &mut Core,
@@ -146,7 +156,7 @@ fn own_part<P: Pick>(
 {
     let done = mem::replace(beside, Vec::new(alloc));
     hand_all(alloc, core, done);
-    *beside = take_wave(alloc, most, core, pick);
+    *beside = take_wave(alloc, size, core, pick);
     make_some(alloc, jobs, begun, pick)
 }
 
@@ -167,14 +177,14 @@ fn make_beside<P: Pick, T: Threads + Sync>(
 {
     let next = AtomicUsize::new(0);
     let (rt, alloc, begun) = (crew.rt, crew.alloc, &next);
-    let most = crew.wave(core.least_side());
+    let size = crew.wave_size(core.least_side());
     let others = if pick.is_wanted() {
         crew.others(jobs)
     } else {
         0
     };
     if others == 0 {
-        let mine = own_part(alloc, most, jobs, begun, core, pick, beside);
+        let mine = own_part(alloc, size, jobs, begun, core, pick, beside);
         return (Ok(Vec::new(alloc)), mine);
     }
     thread::join_mut(
@@ -185,7 +195,7 @@ fn make_beside<P: Pick, T: Threads + Sync>(
         &mut || -> Vec<MadeTile>
             requires { AllByRecursion IsBoundedJob beside.now.items }
             ensures { ((m : Machine) (old : CoreView) (others : List WaveTask) → Underway m old core.entry.now (beside.entry.now.items ++ others) 1 → Underway m old core.exit.now (others ++ beside.exit.now.items) 1) × AllByRecursion IsBoundedJob beside.exit.now.items × HandIsMade jobs.entry.now result }
-        { own_part(alloc, most, jobs, begun, core, pick, beside) },
+        { own_part(alloc, size, jobs, begun, core, pick, beside) },
     )
 }
 
@@ -259,13 +269,9 @@ fn run_beside<P: Pick, T: Threads + Sync>(crew: Crew<T>, core: &mut Core, pick: 
     match list(crew, core.least_side(), &first, core.ready_count()) {
         Some(mut jobs) => {
             jobs.push_reserved(WaveTask::Waits(first));
-            take_more(
-                crew.alloc,
-                core,
-                pick,
-                jobs.capacity() - jobs.len(),
-                &mut jobs,
-            );
+            let size = crew.wave_size(core.least_side());
+            let most = jobs.capacity() - jobs.len();
+            take_more(crew.alloc, core, pick, WaveSize { most, ..size }, &mut jobs);
             run_waves(crew, core, pick, jobs);
         }
         None => hand_in(core, mw_step::run(crew.alloc, first)),

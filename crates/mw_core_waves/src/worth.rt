@@ -1,5 +1,5 @@
-//! What a task is worth: its time, estimated from its windows and from what its step does with a sample. A wrong estimate costs
-//! time and no sample.
+//! What a task is worth: its time, estimated from its windows and from what its step does with a sample; and the bytes that
+//! it makes. A wrong estimate costs time or memory, and no sample.
 
 ghost use Rattle.std.specs.Prelude.{◌≤◌};
 
@@ -30,6 +30,9 @@ const HANDED_OVER: u64 = 3_000_000;
 
 /// A thread more is started for so much of a wave, since it takes half as long to start one.
 const THREAD: u64 = 100_000_000;
+
+/// The bytes that a task takes itself, beside what it makes.
+const ITSELF: u64 = 512;
 
 /// The samples of this rectangle, in samples of 8 bits.
 fn samples(kind: Kind, maxval: u16, place: Rect) -> u64 {
@@ -66,6 +69,44 @@ fn worth(work: &Work) -> u64 {
         count = count.saturating_add(samples(window.kind(), window.maxval(), window.place()));
     }
     count.saturating_mul(each(work.step()))
+}
+
+/// The bytes of a plane of so many pixels.
+fn plane_bytes(kind: Kind, maxval: u16, pixels: u64) -> u64 {
+    match kind {
+        Kind::Bit => pixels / 8,
+        Kind::Grey if maxval <= 255 => pixels,
+        Kind::Grey => pixels.saturating_mul(2),
+    }
+}
+
+/// The bytes that a task makes of so many pixels. A step that does not change the kind makes that of its first source.
+fn made_bytes(work: &Work, pixels: u64) -> u64 {
+    match work.step() {
+        Step::AtLeast(_) => plane_bytes(Kind::Bit, 1, pixels),
+        Step::Equal(_) => plane_bytes(Kind::Bit, 1, pixels),
+        Step::Blank(maxval) => plane_bytes(Kind::Grey, *maxval, pixels),
+        Step::Sum => 0,
+        _ => match work.windows().first() {
+            Some(window) => plane_bytes(window.kind(), window.maxval(), pixels),
+            None => 0,
+        },
+    }
+}
+
+/// The bytes that a task makes, and that it takes itself.
+pub(crate) fn task_bytes(work: &Work) -> u64 {
+    let rect = work.rect();
+    let pixels = u64::from(rect.width).saturating_mul(u64::from(rect.height));
+    made_bytes(work, pixels).saturating_add(ITSELF)
+}
+
+/// The least of them, for a tile of this side: those of a set.
+pub(crate) fn least_task_bytes(side: u32) -> u64
+    ensures { 1 ≤ result }
+{
+    let pixels = u64::from(side).saturating_mul(u64::from(side));
+    plane_bytes(Kind::Bit, 1, pixels).saturating_add(ITSELF)
 }
 
 /// Whether a task is worth less than to hand it over.
