@@ -51,8 +51,8 @@ typedef struct {
     enum { U8, U16, SET, SKELETON, RESTORE, SPECTRUM, THRESHOLD, HIT_OR_MISS, ROWS, RECONSTRUCT_U8, RECONSTRUCT_U16, RECONSTRUCT_SET,
            FILL_U8, FILL_U16, CLEAR_BORDER_SET, EXTREMA_U8, MINIMA_U16, LABEL, REGIONS, COMPONENTS, AREA, AREA_U8, AREA_U16, DISTANCE } call;
     uint32_t number, k, width, height, side;
-    /* All pixels of a square, or those of a disc. */
-    enum { BOX, DISC } shape;
+    /* All pixels of a square, or those of a disc or of a diagonal. */
+    enum { BOX, DISC, DIAGONAL } shape;
 } Case;
 
 static uint8_t *bytes, *board, *marker, element[LARGEST * LARGEST], far_pixel[3] = {1, 0, 0};
@@ -64,7 +64,8 @@ static void draw(const Case *c) {
     for (int y = 0; y < (int)c->side; y++)
         for (int x = 0; x < (int)c->side; x++) {
             int dx = x - middle, dy = y - middle;
-            element[y * c->side + x] = c->shape == BOX || dx * dx + dy * dy <= middle * middle;
+            int is_in_disc = dx * dx + dy * dy <= middle * middle;
+            element[y * c->side + x] = c->shape == BOX || (c->shape == DISC ? is_in_disc : dx == dy);
         }
 }
 
@@ -125,9 +126,14 @@ static const Case cases[] = {
     {"threshold_u16", THRESHOLD, 300, 0, 4096, 2048, 1, BOX},
     {"opening_u8_box_15", U8, MORPHD_OPEN, 0, 4096, 2048, 15, BOX},
     {"opening_u8_box_255", U8, MORPHD_OPEN, 0, 4096, 2048, 255, BOX},
+    {"opening_u8_disc_5", U8, MORPHD_OPEN, 0, 4096, 2048, 5, DISC},
+    {"gradient_u16_disc_5", U16, MORPHD_GRADIENT, 0, 4096, 2048, 5, DISC},
     {"opening_u8_disc_31", U8, MORPHD_OPEN, 0, 4096, 2048, 31, DISC},
     {"opening_u16_disc_15", U16, MORPHD_OPEN, 0, 4096, 2048, 15, DISC},
     {"closing_u16_disc_63", U16, MORPHD_CLOSE, 0, 4096, 2048, 63, DISC},
+    {"opening_u8_disc_127", U8, MORPHD_OPEN, 0, 4096, 2048, 127, DISC},
+    {"closing_u16_disc_127", U16, MORPHD_CLOSE, 0, 4096, 2048, 127, DISC},
+    {"opening_u16_diagonal_81", U16, MORPHD_OPEN, 0, 4096, 2048, 81, DIAGONAL},
     {"white_top_hat_u8_disc_31", U8, MORPHD_WHITE_TOP_HAT, 0, 4096, 2048, 31, DISC},
     {"white_top_hat_u16_disc_31", U16, MORPHD_WHITE_TOP_HAT, 0, 2048, 2048, 31, DISC},
     {"black_top_hat_u16_disc_15", U16, MORPHD_BLACK_TOP_HAT, 0, 4096, 2048, 15, DISC},
