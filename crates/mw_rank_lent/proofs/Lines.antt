@@ -1,12 +1,11 @@
 -- Columns as lines.
-use Rattle.std.proofs.Common.{◌≡◌, ℕ, ℤ, pos, negsuc, ◌+ℤ◌, ◌-ℤ◌, ◌+◌, ◌-◌, ◌*◌, ◌<◌, ◌≤◌, List, [], ◌∷◌, length, map, get_or, None, refl, ap, sym, subst, arith, ◌∙◌, inl, inr}
+use Rattle.std.proofs.Common.{◌≡◌, ℕ, ℤ, pos, negsuc, ◌+ℤ◌, ◌-ℤ◌, ◌+◌, ◌*◌, ◌<◌, ◌≤◌, List, [], ◌∷◌, length, map, get_or, refl, ap, sym, subst, arith, ◌∙◌, inl, inr}
 use Rattle.std.specs.Option.{option_to_list}
 use Rattle.std.proofs.lemmas.Bool.{cases_lt}
-use Rattle.std.proofs.lemmas.Int.{ints}
 use Rattle.std.proofs.lemmas.List.{get_or_default}
 use Rattle.std.proofs.lemmas.Nat.{mul-add-lt}
 use Rattle.mw_model.specs.declared.offsets.Offset.{Offset}
-use Rattle.mw_model.specs.Rasters.{raster, cell_at}
+use Rattle.mw_model.specs.Rasters.{raster}
 use Rattle.mw_model.specs.Windows.{View, seen_at}
 use Rattle.mw_rank_medians.specs.mw_rank.Ranks.{levels_at}
 use Rattle.mw_rank_medians.specs.mw_rank.Tallies.{count_under}

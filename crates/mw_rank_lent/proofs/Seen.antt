@@ -1,5 +1,5 @@
 -- How much of a square is seen, and that the filled median is the median where that is enough.
-use Rattle.std.proofs.Common.{◌≡◌, ℕ, ℤ, pos, ◌+ℤ◌, zero, suc, ◌+◌, ◌-◌, ◌*◌, ◌<◌, ◌≤◌, List, [], ◌∷◌, ◌++◌, length, map, min, max, refl, ap, sym, subst, arith, ◌∙◌, inl, inr, append-nil}
+use Rattle.std.proofs.Common.{◌≡◌, ℕ, ℤ, pos, ◌+ℤ◌, zero, suc, ◌+◌, ◌-◌, ◌*◌, ◌<◌, ◌≤◌, List, [], ◌∷◌, ◌++◌, length, map, ap, sym, subst, arith, ◌∙◌, inl, inr, append-nil}
 use Rattle.std.specs.Option.{option_to_list}
 use Rattle.std.proofs.lemmas.Bool.{cases_lt}
 use Rattle.std.proofs.lemmas.Int.{ints}
@@ -10,7 +10,7 @@ use Rattle.mw_model.proofs.Ranks.{nth_is, nth_from}
 use Rattle.mw_rank_medians.specs.mw_rank.Ranks.{levels_under, levels_at}
 use Rattle.mw_rank_medians.specs.mw_rank.Runs.{offsets_from}
 use Rattle.mw_rank_medians.specs.mw_rank.Tallies.{count_under}
-use Rattle.mw_rank_medians.proofs.mw_rank.Counts.{count-append, count-cons, count_rises, count_within, one-le}
+use Rattle.mw_rank_medians.proofs.mw_rank.Counts.{count-append, count-cons, count_rises, count_within}
 use Rattle.mw_rank_medians.proofs.mw_rank.Sights.{levels-append, levels-cons, levels_at-on, length-levels_at, offset_on, offsets-snoc}
 use Rattle.mw_rank_medians.specs.Filled.{filled_under, or_top}
 use Rattle.mw_rank_medians.specs.Squares.{offset_rows, row_down}

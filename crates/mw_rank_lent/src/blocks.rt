@@ -3,10 +3,10 @@ ghost use Rattle.std.specs.Prelude.{◌≡◌, ℕ, ◌+◌, ◌-◌, ◌*◌, �
 ghost use Rattle.mw_rank_medians.specs.mw_rank.Ranks.{HasRows};
 ghost use Rattle.mw_rank_lent.specs.Middles.{AreInner, HasMedians, IsMiddle, PutsMedians, median_at};
 
+use crate::broad::Broad;
 use crate::rows::{Sides, put_row};
 use crate::sides::{Side, put_side};
 use crate::squares::Square;
-use mw_rank_medians::Vectored;
 use mw_tile_lent::Lent;
 
 /// Some rows, the square that is put on them, and where the first begins in what is written.
@@ -19,7 +19,7 @@ pub(crate) struct Block {
 }
 
 /// Writes the rows between the sides, and these beside them.
-fn put_rows<P: Vectored>(lent: &Lent<P>, square: Square, sides: Sides<P>, at: usize, out: &mut [P])
+fn put_rows<P: Broad>(lent: &Lent<P>, square: Square, sides: Sides<P>, at: usize, out: &mut [P])
     requires middle { IsMiddle square }
     requires inner { AreInner lent.now square sides.y sides.rows }
     requires wide { P.WIDTH + 2 * square.reach ≤ lent.now.place.width }
@@ -35,7 +35,7 @@ fn put_rows<P: Vectored>(lent: &Lent<P>, square: Square, sides: Sides<P>, at: us
 }
 
 /// Writes the medians of a block. There is room for its lines, and for the medians of both sides.
-fn put_block<P: Vectored>(
+fn put_block<P: Broad>(
     lent: &Lent<P>,
     block: Block,
     lines: &mut [P],
@@ -93,7 +93,7 @@ pub(crate) struct Area {
 }
 
 /// Writes the medians of an area, block after block. The last block begins early enough to end with the area.
-pub(crate) fn put_blocks<P: Vectored>(
+pub(crate) fn put_blocks<P: Broad>(
     lent: &Lent<P>,
     area: Area,
     lines: &mut [P],

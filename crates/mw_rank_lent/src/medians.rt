@@ -7,9 +7,9 @@ ghost use Rattle.mw_rank_medians.specs.mw_rank.Ranks.{IsRank};
 ghost use Rattle.mw_rank_lent.specs.Middles.{AreInner, HasMedians, HasTile, IsMiddle};
 
 use crate::blocks::{Area, put_blocks};
+use crate::broad::Broad;
 use crate::squares::{Square, square_about};
 use mw_model::{NoMemory, Offset, Rect};
-use mw_rank_medians::Vectored;
 use mw_rank_medians::pixel::copies;
 use mw_tile_lent::Lent;
 use std::alloc::Global;
@@ -20,7 +20,7 @@ const ROWS: u32 = 64;
 
 /// Whether the tile has whole rows of the place, a vector of columns between its sides and as many rows, and the place has all that
 /// the square reaches above and below.
-fn is_inner<P: Vectored>(lent: &Lent<P>, square: Square, tile: Rect) -> bool
+fn is_inner<P: Broad>(lent: &Lent<P>, square: Square, tile: Rect) -> bool
     requires { IsMiddle square }
     ensures inner { IsTrue result → AreInner lent.now square tile.y tile.height }
     ensures wide { IsTrue result → P.WIDTH + 2 * square.reach ≤ lent.now.place.width }
@@ -39,7 +39,7 @@ fn is_inner<P: Vectored>(lent: &Lent<P>, square: Square, tile: Rect) -> bool
 }
 
 /// Writes the medians of rows that have all that the square reaches above and below.
-fn put_all<P: Vectored>(
+fn put_all<P: Broad>(
     alloc: Global,
     lent: &Lent<P>,
     square: Square,
@@ -78,7 +78,7 @@ fn put_all<P: Vectored>(
 }
 
 /// Writes the medians of a tile under a square, if it can. Says whether it did: where not, it writes nothing.
-fn put_square<P: Vectored>(
+fn put_square<P: Broad>(
     alloc: Global,
     lent: &Lent<P>,
     square: Square,
@@ -101,7 +101,7 @@ fn put_square<P: Vectored>(
 /// Writes the ranks of a tile, where they are medians under a square of 3 x 3 or 5 x 5 offsets about its origin, and the tile has
 /// whole rows of what is lent, which has all rows that the square reaches. Says whether it did: where not, it writes nothing. It
 /// may want memory (`NoMemory`), but only before it writes.
-pub fn medians_into<P: Vectored>(
+pub fn medians_into<P: Broad>(
     alloc: Global,
     lent: &Lent<P>,
     offsets: &[Offset],

@@ -3,9 +3,11 @@ ghost use Rattle.std.specs.Prelude.{◌≡◌, ℕ, ◌+◌, ◌-◌, ◌*◌, �
 ghost use Rattle.mw_rank_medians.specs.mw_rank.Ranks.{HasRows};
 ghost use Rattle.mw_rank_lent.specs.Middles.{AreInner, IsMiddle, PutsCells, median_at};
 
+use crate::broad::Broad;
+use crate::nine::medians_of_row;
 use crate::squares::Square;
+use mw_rank_medians::Sheet;
 use mw_rank_medians::pixel::Pixel;
-use mw_rank_medians::{Sheet, Vectored, medians_of_rows};
 use mw_tile_lent::Lent;
 
 /// The medians of the columns at both sides, column after column, of so many rows from row y on.
@@ -32,7 +34,7 @@ fn put_cells<P: Pixel>(made: &[P], rows: u32, row: u32, count: u32, at: usize, o
 }
 
 /// Writes the medians of row y under whole squares: from column `reach` of the place on.
-fn put_inner<P: Vectored>(
+fn put_inner<P: Broad>(
     lent: &Lent<P>,
     square: Square,
     y: u32,
@@ -55,11 +57,11 @@ fn put_inner<P: Vectored>(
         from: row as usize * stride,
         stride,
     };
-    medians_of_rows(&mut out[at..at + count], sheet, square.side, square.k);
+    medians_of_row(&mut out[at..at + count], sheet, square.side, square.k);
 }
 
 /// Writes the medians of a row of the place, that of this number of the rows of the sides.
-pub(crate) fn put_row<P: Vectored>(
+pub(crate) fn put_row<P: Broad>(
     lent: &Lent<P>,
     square: Square,
     sides: Sides<P>,

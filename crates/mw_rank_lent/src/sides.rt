@@ -8,9 +8,10 @@ ghost use Rattle.mw_rank_medians.specs.mw_rank.Ranks.{HasRows};
 ghost use Rattle.mw_rank_lent.specs.Lines.{AreSeen};
 ghost use Rattle.mw_rank_lent.specs.Middles.{AreInner, IsMiddle, median_at};
 
+use crate::broad::Broad;
 use crate::columns::{Columns, put_lines};
 use crate::squares::Square;
-use mw_rank_medians::{Sheet, Vectored, medians_of_rows};
+use mw_rank_medians::{Sheet, medians_of_rows};
 use mw_tile_lent::Lent;
 
 /// Columns from column x on, of so many rows from row y on.
@@ -22,7 +23,7 @@ pub(crate) struct Side {
 }
 
 /// The medians of as many columns as the square reaches to a side, of which the lines are given.
-fn put_medians<P: Vectored>(lent: &Lent<P>, square: Square, side: Side, lines: &[P], made: &mut [P])
+fn put_medians<P: Broad>(lent: &Lent<P>, square: Square, side: Side, lines: &[P], made: &mut [P])
     requires middle { IsMiddle square }
     requires inner { AreInner lent.now square side.y side.rows }
     requires left { lent.now.place.x ≤ side.x }
@@ -47,7 +48,7 @@ fn put_medians<P: Vectored>(lent: &Lent<P>, square: Square, side: Side, lines: &
 }
 
 /// The medians of as many columns as the square reaches to a side, column after column.
-pub(crate) fn put_side<P: Vectored>(
+pub(crate) fn put_side<P: Broad>(
     lent: &Lent<P>,
     square: Square,
     side: Side,

@@ -1,4 +1,4 @@
-use Rattle.std.proofs.Common.{◌≡◌, ℕ, ◌+◌, ◌-◌, ◌*◌, ◌<◌, ◌≤◌, length, ap, sym, subst, arith, ◌∙◌}
+use Rattle.std.proofs.Common.{◌≡◌, ℕ, ◌+◌, ◌-◌, ap, subst, arith, ◌∙◌}
 use Rattle.mw_model.specs.declared.offsets.Rect.{Rect}
 use Rattle.mw_rank_medians.specs.mw_rank.Ranks.{HasRows}
 use Rattle.mw_rank_lent.specs.Middles.{median_at}

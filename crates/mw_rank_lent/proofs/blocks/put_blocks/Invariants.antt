@@ -1,4 +1,4 @@
-use Rattle.std.proofs.Common.{◌≡◌, ◌+◌, ◌-◌, ◌*◌, ◌≤◌, length}
+use Rattle.std.proofs.Common.{◌≡◌, ◌+◌, ◌-◌, ◌≤◌, length}
 use Rattle.mw_rank_lent.specs.Middles.{AreRowsMade, median_at}
 use Rattle.mw_rank_lent.proofs.blocks.put_blocks.Given as goal
 

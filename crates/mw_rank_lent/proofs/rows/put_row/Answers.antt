@@ -1,4 +1,4 @@
-use Rattle.std.proofs.Common.{◌≡◌, ℕ, ◌+◌, ◌-◌, ◌*◌, ◌<◌, ◌≤◌, length, get_or, refl, ap, sym, subst, arith, ◌∙◌}
+use Rattle.std.proofs.Common.{◌≡◌, ℕ, ◌+◌, ◌-◌, ◌*◌, ap, subst, arith}
 use Rattle.mw_model.specs.declared.offsets.Rect.{Rect}
 use Rattle.mw_rank_lent.specs.Middles.{PutsCells, median_at}
 use Rattle.mw_rank_lent.proofs.Puts.{lines_put, puts_on, puts_same}
