@@ -22,11 +22,11 @@ use mw_line_lent::{
 };
 use mw_model::{NoMemory, Offset, OffsetBox, Rect};
 use mw_offset_lent::{is_quick, offsets_into};
-use mw_rank_lent::Vectored;
+use mw_rank_lent::Broad;
 use std::alloc::Global;
 
 /// A sample in levels of grey that a kernel of lent rows writes.
-pub trait Lendable: Vectored {
+pub trait Lendable: Broad {
     /// The samples of an array in levels of grey, where they are of this type.
     fn grey<'a>(f: ArrayImage<'a>) -> Option<&'a [Self]>
         ensures samples { IfSome result (λ samples. map Self.level samples.now ≡ (picture_in f.entry).samples) }
