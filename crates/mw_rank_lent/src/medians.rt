@@ -14,9 +14,9 @@ use mw_rank_medians::pixel::copies;
 use mw_tile_lent::Lent;
 use std::alloc::Global;
 
-/// So many rows are made at a time: few enough that the columns at their sides stay in the cache, and enough for whole vectors
-/// down these columns.
-const ROWS: u32 = 64;
+/// So many rows are made at a time: enough for a whole vector down the columns at their sides, and no more. These columns are read
+/// before the rows are, and the more long rows were begun so, the longer it took to read them.
+const ROWS: u32 = 16;
 
 /// Whether the tile has whole rows of the place, a vector of columns between its sides and as many rows, and the place has all that
 /// the square reaches above and below.
