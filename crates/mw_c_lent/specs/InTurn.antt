@@ -1,13 +1,11 @@
 -- Extrema under elements of any shape, one after the other (own).
-use Rattle.std.specs.Prelude.{◌≡◌, ℕ, ◌-◌, List, [], ⊤}
+use Rattle.std.specs.Prelude.{ℕ, List, [], ⊤}
 use Rattle.std.specs.Arc.{arc_value}
 use Rattle.mw_model.specs.declared.offsets.Offset.{Offset}
-use Rattle.mw_model.specs.declared.offsets.Reach.{Reach}
-use Rattle.mw_model.specs.declared.offsets.Rect.{Rect}
 use Rattle.mw_model.specs.Flat.{greatest, least}
-use Rattle.mw_model.specs.Rectangles.{WithinReach, grown, rect}
-use Rattle.mw_c_arrays.specs.Sources.{picture_in}
-use Rattle.mw_c_lent.specs.declared.in_place.Middle.{Middle}
+use Rattle.mw_model.specs.Rectangles.{WithinReach}
+use Rattle.mw_c_arrays.specs.Sources.{IsArrayImage}
+use Rattle.mw_c_lent.specs.declared.in_turn.Sequence.{Sequence}
 use Rattle.mw_c_lent.specs.declared.rules.Rule.{Rule}
 use Rattle.mw_c_lent.specs.declared.rules.Rule.TheVariants as rule
 
@@ -28,9 +26,9 @@ abbrev pub rule_value : ℕ → Rule → List ℕ → ℕ
 rule_value top (rule.Least e) ns = least top ns
 rule_value top r ns = greatest ns
 
--- the strip has the rows, and the place all that their extremum looks at
-pub record StandsAround (m : Middle) (strip place : Rect) : Type 0 where
-  pub rows : strip ≡ rect 0 m.from (picture_in m.f).width (m.to - m.from)
-  pub reach : Reach
-  pub within : WithinReach reach (rule_offsets m.rule)
-  pub seen : place ≡ grown (picture_in m.f).width (picture_in m.f).height reach strip
+-- both rules are such, and the second does not look beyond the reach
+pub record IsSequence (s : Sequence) : Type 0 where
+  pub image : IsArrayImage s.f
+  pub first : IsElementRule s.first
+  pub second : IsElementRule s.second
+  pub within : WithinReach s.reach (rule_offsets s.second)

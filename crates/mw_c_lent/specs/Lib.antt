@@ -1,4 +1,5 @@
 pub mod Boxes
+pub mod Composites
 pub mod InPlace
 pub mod InTurn
 pub mod Levels

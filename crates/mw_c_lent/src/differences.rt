@@ -50,7 +50,7 @@ pub(crate) fn put_less<P: Lendable>(
 }
 
 /// The samples of a strip.
-fn own_rows<'a, P: Lendable>(lent: &Lent<'a, P>, strip: Rect) -> &'a [P]
+pub(crate) fn own_rows<'a, P: Lendable>(lent: &Lent<'a, P>, strip: Rect) -> &'a [P]
     requires whole { lent.now.place ≡ whole_frame lent.now.frame_width lent.now.frame_height }
     requires strip { AreFrameRows strip lent.now.frame_width lent.now.frame_height }
     ensures value { result.now ≡ slice_range lent.now.cells (strip.y * strip.width) (strip.y * strip.width + strip.height * strip.width) }

@@ -135,7 +135,7 @@ fn put_greatest<P: Lendable>(
 }
 
 /// Writes what a rule makes in a tile of an image with this maxval, if there is a kernel for it.
-fn put_tile<P: Lendable>(
+pub(crate) fn put_tile<P: Lendable>(
     alloc: Global,
     rule: Rule<'_>,
     lent: &Lent<P>,

@@ -173,10 +173,10 @@ fn put_all<P: Lendable>(
 }
 
 /// About so many bytes have the rows of a strip of two steps, so that they stay in the cache.
-const STRIP: u32 = 262144;
+pub(crate) const STRIP: u32 = 262144;
 
 /// And of a difference of two extrema, of which no row is looked at twice.
-const STRIP_LESS: u32 = 131072;
+pub(crate) const STRIP_LESS: u32 = 131072;
 
 /// No more bytes have the rows between the two steps.
 const MEMORY: u32 = 1966080;
@@ -194,7 +194,7 @@ fn strip_size(recipe: Recipe) -> u32
 }
 
 /// How many bytes a row has.
-fn row_size(f: ArrayImage<'_>) -> u32
+pub(crate) fn row_size(f: ArrayImage<'_>) -> u32
     ensures some { 1 ≤ result }
     ensures small { result ≤ max 1 (2 * (picture_in f.entry).width) }
 {
@@ -208,7 +208,7 @@ fn row_size(f: ArrayImage<'_>) -> u32
 
 /// How many rows a strip of about so many bytes has, if all are in memory: where that holds more, as many as are made together, and
 /// four times as many as are moved for the next strip.
-fn rows_of_strip(bytes: u32, together: u32, row_size: u32, beyond: u32, height: u32) -> Option<u32>
+pub(crate) fn rows_of_strip(bytes: u32, together: u32, row_size: u32, beyond: u32, height: u32) -> Option<u32>
     requires bytes { bytes ≤ 262144 }
     requires size { 1 ≤ row_size }
     requires few { beyond ≤ 255 }
