@@ -57,28 +57,3 @@ in_turn_made level f first second reach top m n place strip part out one two pic
     made_shown (rule_value (level top) second) level (view_of m n place part) g (rule_picture second g) (rule_offsets second) strip out (alike_strip f g strip shape strip-is)
     (λ i j across down. levels_window level (view_of m n place part) g (rule_offsets second) strip size window i j across down)
     (λ x y across down. rule_there second (level top) g x y two (shape.maxval ∙ is) across down) made
-
--- ---- rows
-
--- the rows of the strip
-pub own_rows : (m : Middle) (strip place : Rect) (n : ℕ) → EndAt m.from m.to n (picture_in m.f) → StandsAround m strip place → IsStrip strip (picture_in m.f) × (n ≡ strip.height * strip.width)
-own_rows m strip place n rows is =
-    let left : strip.x ≡ 0 = ap (λ (r : Rect). r.x) is.rows in
-    let top : strip.y ≡ m.from = ap (λ (r : Rect). r.y) is.rows in
-    let wide : strip.width ≡ (picture_in m.f).width = ap (λ (r : Rect). r.width) is.rows in
-    let high : strip.height ≡ m.to - m.from = ap (λ (r : Rect). r.height) is.rows in
-    let some = rows.some in
-    let low = rows.within in (
-      record { left = left; wide = wide; some = omega (arith, high, some); low = omega (arith, top, high, some, low) },
-      between_count m.from m.to strip.width (picture_in m.f).width n rows.some wide rows.samples ∙ ap (λ (t : ℕ). t * strip.width) (sym high),
-    )
-
--- the rows around it
-pub around_rows : (m : Middle) (strip place : Rect) (n : ℕ) → EndAt m.from m.to n (picture_in m.f) → StandsAround m strip place → IsStrip place (picture_in m.f)
-around_rows m strip place n rows is =
-    subst (λ (r : Rect). IsStrip r (picture_in m.f)) (sym is.seen)
-    (read_strip (picture_in m.f).width (picture_in m.f).height strip is.reach (picture_in m.f) refl refl (own_rows m strip place n rows is).0)
-
--- and where the sides have other names
-pub place_in : (m : Middle) (strip place : Rect) (w h : ℕ) (is : StandsAround m strip place) → w ≡ (picture_in m.f).width → h ≡ (picture_in m.f).height → place ≡ grown w h is.reach strip
-place_in m strip place w h is wide high = rw (wide, high) is.seen

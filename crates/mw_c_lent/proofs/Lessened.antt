@@ -96,7 +96,7 @@ recipe_shape (recipe.Taken s) f = record { kind = refl; width = refl; height = r
 recipe_shape (recipe.Added s) f = let own = steps_shape s f in record { kind = own.kind; width = own.width; height = own.height; maxval = own.maxval }
 recipe_shape (recipe.Less a b) f = let own = slide_shape a f in record { kind = own.kind; width = own.width; height = own.height; maxval = own.maxval }
 
-less_size : (f g : Picture) → length (minus f g).samples ≡ (minus f g).height * (minus f g).width
+pub less_size : (f g : Picture) → length (minus f g).samples ≡ (minus f g).height * (minus f g).width
 less_size f g = length-rows (λ x y. sample f x y - sample g x y) f.width 0 f.height
 
 pub recipe_size : (r : Recipe) (f : Picture) → length (recipe_picture r f).samples ≡ (recipe_picture r f).height * (recipe_picture r f).width

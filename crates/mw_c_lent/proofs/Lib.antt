@@ -6,6 +6,7 @@ pub mod Written
 -- the crate's own
 mod Slid
 mod InTurn
+mod InStrips
 mod Stood
 mod Narrowed
 mod Ranges
