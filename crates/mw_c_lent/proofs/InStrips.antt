@@ -1,5 +1,6 @@
 -- What two extrema under elements of any shape make of an image, in strips.
-use Rattle.std.proofs.Common.{◌≡◌, ℕ, ◌+◌, ◌-◌, ◌*◌, ◌≤◌, min, List, length, refl, ap, sym, arith, ◌∙◌}
+use Rattle.std.proofs.Common.{◌≡◌, ℕ, ◌+◌, ◌-◌, ◌*◌, ◌<◌, ◌≤◌, length, refl, ap, sym, arith, ◌∙◌}
+use Rattle.std.proofs.lemmas.Nat.{mul-le}
 use Rattle.mw_model.specs.declared.offsets.Rect.{Rect}
 use Rattle.mw_model.specs.Pictures.{IsPicture, Picture}
 use Rattle.mw_model.specs.Windows.{View}
@@ -12,6 +13,7 @@ use Rattle.mw_c_lent.specs.Rows.{IsStrip}
 use Rattle.mw_c_lent.specs.Rules.{rule_picture}
 use Rattle.mw_c_lent.specs.Slides.{AreFrameRows}
 use Rattle.mw_c_lent.proofs.Lessened.{less_size}
+use Rattle.mw_c_lent.proofs.Rows.{between_count}
 use Rattle.mw_c_lent.proofs.Slid.{whole_sides}
 use Rattle.mw_c_lent.proofs.Steps.{rule_is_picture, strip_above}
 
@@ -41,3 +43,26 @@ pub view_rows : {A : Type 0} (level : A → ℕ) (w : View A) (f : Picture) (r :
 view_rows level w f r whole rows =
     let sides = whole_sides level w f whole in
     record { left = rows.left; across = rows.across ∙ sym sides.0; some = rows.some; low = omega (arith, rows.low, sides.1); wide = omega (arith, rows.wide, sides.0) }
+
+-- ---- room
+
+-- there is room for the rows of a strip behind those above it
+pub room_behind : (first y high end w m n : ℕ) → first ≤ y → y + high ≤ end → first < end → w ≡ m → end * m ≡ first * m + n → (y - first) * w + high * w ≤ n
+room_behind first y high end w m n behind within some wide is =
+    omega (arith, between_count first end w m n some wide is, mul-le (y - first + high) w (end - first) w (omega (arith, behind, within)) (omega arith), split (y - first) high w)
+  where
+    split : (a b k : ℕ) → (a + b) * k ≡ a * k + b * k
+    split a b k = omega arith
+
+-- no rows have room
+pub none_held : (a b w n : ℕ) → a ≡ b → (a - b) * w ≤ n
+none_held a b w n is =
+    let none : a - b ≡ 0 = omega (arith, is) in
+    let zero : (a - b) * w ≡ 0 * w = ap (λ (t : ℕ). t * w) none in
+    omega (arith, zero)
+
+-- a buffer of so many rows has room for them
+pub held_room : (held most w m n : ℕ) → held ≡ most → w ≡ m → n ≡ held * w → most * m ≤ n
+held_room held most w m n rows wide is =
+    let all : n ≡ most * m = is ∙ ap (λ (t : ℕ). t * w) rows ∙ ap (λ (t : ℕ). most * t) wide in
+    omega (arith, all)

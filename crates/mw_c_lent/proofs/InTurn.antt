@@ -1,5 +1,5 @@
 -- What extrema under elements make, one after the other, of some rows of an image.
-use Rattle.std.proofs.Common.{◌≡◌, ℕ, ◌+◌, ◌-◌, ◌*◌, ◌<◌, List, map, refl, ap, sym, subst, arith, ◌∙◌}
+use Rattle.std.proofs.Common.{◌≡◌, ℕ, ◌<◌, List, map, refl, ap, sym, ◌∙◌}
 use Rattle.mw_model.specs.declared.offsets.Reach.{Reach}
 use Rattle.mw_model.specs.declared.offsets.Rect.{Rect}
 use Rattle.mw_model.specs.Flat.{greatest, least, under}
@@ -10,15 +10,13 @@ use Rattle.mw_model.specs.Tasks.{cells_in}
 use Rattle.mw_model.specs.Windows.{seen_at}
 use Rattle.std.specs.Arc.{arc_value}
 use Rattle.mw_tile.specs.Cuts.{view_of}
-use Rattle.mw_c_arrays.specs.Sources.{picture_in}
-use Rattle.mw_c_lent.specs.declared.in_place.Middle.{Middle}
 use Rattle.mw_c_lent.specs.declared.rules.Rule.{Rule}
 use Rattle.mw_c_lent.specs.declared.rules.Rule.TheVariants as rules
 use Rattle.mw_c_lent.specs.Boxes.{IsMadeUnder}
-use Rattle.mw_c_lent.specs.InTurn.{IsElementRule, StandsAround, rule_offsets, rule_value}
-use Rattle.mw_c_lent.specs.Rows.{EndAt, IsStrip}
+use Rattle.mw_c_lent.specs.InTurn.{IsElementRule, rule_offsets, rule_value}
+use Rattle.mw_c_lent.specs.Rows.{IsStrip}
 use Rattle.mw_c_lent.specs.Rules.{rule_picture}
-use Rattle.mw_c_lent.proofs.Rows.{between_count, read_strip}
+use Rattle.mw_c_lent.proofs.Rows.{read_strip}
 use Rattle.mw_c_lent.proofs.Slid.{alike_strip}
 use Rattle.mw_c_lent.proofs.Steps.{greatest_there, least_there, rule_is_picture}
 use Rattle.mw_c_lent.proofs.UnderBoxes.{made_shown}

@@ -9,3 +9,4 @@ pub mod Rows
 pub mod Rules
 pub mod Slides
 pub mod Standing
+pub mod Suited

@@ -21,41 +21,42 @@ use crate::recipes::{STRIP, STRIP_LESS, row_size, rows_of_strip};
 use crate::standing::Standing;
 use mw_c_arrays::ArrayImage;
 use mw_grid::whole_frame;
-use mw_line_lent::copies;
+use mw_line_lent::{Room, copies};
 use mw_model::{NoMemory, Reach, Rect};
 use mw_rank_lent::Lent;
 use std::alloc::Global;
 
-/// A strip, the rows that stand for the one above it, and the row with which the array begins.
+/// A strip, the rows that stand for the one above it, the row with which the array begins, and the sample that changes no least.
 #[derive(Clone, Copy)]
-struct Next {
+struct Next<P> {
     strip: Rect,
     standing: Standing,
     first: u32,
+    top: P,
 }
 
 /// Lets the rows stand that are looked at for a strip, and writes its rows, if there are kernels for that.
 fn put_next<P: Lendable>(
-    alloc: Global,
+    room: &mut Room<P>,
     lent: &Lent<P>,
-    composer: Composer<'_, P>,
-    next: Next,
+    composition: Composition<'_>,
+    next: Next<P>,
     between: &mut [P],
     out: &mut [P],
 ) -> Result<bool, NoMemory>
-    requires sound { IsComposition composer.composition }
-    requires view { IsWholeView P.level lent.now (picture_in composer.composition.f) }
-    requires top { (picture_in composer.composition.f).maxval ≡ P.level composer.top }
-    requires strip { AreFrameRows next.strip (picture_in composer.composition.f).width (picture_in composer.composition.f).height }
-    requires behind { next.standing.from ≤ seen_from composer.composition.reach next.strip }
-    requires joined { seen_from composer.composition.reach next.strip ≤ next.standing.to }
+    requires sound { IsComposition composition }
+    requires view { IsWholeView P.level lent.now (picture_in composition.f) }
+    requires top { (picture_in composition.f).maxval ≡ P.level next.top }
+    requires strip { AreFrameRows next.strip (picture_in composition.f).width (picture_in composition.f).height }
+    requires behind { next.standing.from ≤ seen_from composition.reach next.strip }
+    requires joined { seen_from composition.reach next.strip ≤ next.standing.to }
     requires held { (next.standing.to - next.standing.from) * next.strip.width ≤ length between.old }
-    requires between { min (next.strip.height + (composer.composition.reach.up + composer.composition.reach.down)) (picture_in composer.composition.f).height * next.strip.width ≤ length between.old }
+    requires between { min (next.strip.height + (composition.reach.up + composition.reach.down)) (picture_in composition.f).height * next.strip.width ≤ length between.old }
     requires room { length out.old ≡ next.strip.height * next.strip.width }
-    requires stands { HasImageRows P.level (rule_picture (first_made composer.composition.composite) (picture_in composer.composition.f)) next.standing.from next.standing.to between.old }
+    requires stands { HasImageRows P.level (rule_picture (first_made composition.composite) (picture_in composition.f)) next.standing.from next.standing.to between.old }
     ensures between { length between.new ≡ length between.old }
-    ensures stands { IfOk result (λ done. done ≡ true → HasImageRows P.level (rule_picture (first_made composer.entry.composition.composite) (picture_in composer.entry.composition.f)) (seen_from composer.entry.composition.reach next.strip) (seen_to (picture_in composer.entry.composition.f).height composer.entry.composition.reach next.strip) between.new) }
-    ensures made { IfOk result (λ done. done ≡ true → map P.level out.new ≡ cells_in next.strip (sample (composite_picture composer.entry.composition.composite (picture_in composer.entry.composition.f)))) }
+    ensures stands { IfOk result (λ done. done ≡ true → HasImageRows P.level (rule_picture (first_made composition.entry.composite) (picture_in composition.entry.f)) (seen_from composition.entry.reach next.strip) (seen_to (picture_in composition.entry.f).height composition.entry.reach next.strip) between.new) }
+    ensures made { IfOk result (λ done. done ≡ true → map P.level out.new ≡ cells_in next.strip (sample (composite_picture composition.entry.composite (picture_in composition.entry.f)))) }
     ensures left_out { IfOk result (λ done. done ≡ false → out.new ≡ out.old) }
     ensures kept { IfErr result (λ _. out.new ≡ out.old) }
 {
@@ -64,42 +65,46 @@ fn put_next<P: Lendable>(
         composite,
         f,
         reach,
-    } = composer.composition;
+    } = composition;
     let source = Source {
         rule: made_first(composite),
         f,
         reach,
     };
-    if !let_stand(alloc, lent, source, strip, next.standing, between)? {
+    if !let_stand(room, lent, source, strip, next.standing, between)? {
         return Ok(false);
     }
-    put_composed(alloc, lent, composer, strip, between, out)
+    let composer = Composer {
+        composition,
+        top: next.top,
+    };
+    put_composed(room, lent, composer, strip, between, out)
 }
 
 /// Writes the rows of a strip behind those that are written above it, if there are kernels for that.
 fn put_next_behind<P: Lendable>(
-    alloc: Global,
+    room: &mut Room<P>,
     lent: &Lent<P>,
-    composer: Composer<'_, P>,
-    next: Next,
+    composition: Composition<'_>,
+    next: Next<P>,
     between: &mut [P],
     out: &mut [P],
 ) -> Result<bool, NoMemory>
-    requires sound { IsComposition composer.composition }
-    requires view { IsWholeView P.level lent.now (picture_in composer.composition.f) }
-    requires top { (picture_in composer.composition.f).maxval ≡ P.level composer.top }
-    requires strip { AreFrameRows next.strip (picture_in composer.composition.f).width (picture_in composer.composition.f).height }
-    requires behind { next.standing.from ≤ seen_from composer.composition.reach next.strip }
-    requires joined { seen_from composer.composition.reach next.strip ≤ next.standing.to }
+    requires sound { IsComposition composition }
+    requires view { IsWholeView P.level lent.now (picture_in composition.f) }
+    requires top { (picture_in composition.f).maxval ≡ P.level next.top }
+    requires strip { AreFrameRows next.strip (picture_in composition.f).width (picture_in composition.f).height }
+    requires behind { next.standing.from ≤ seen_from composition.reach next.strip }
+    requires joined { seen_from composition.reach next.strip ≤ next.standing.to }
     requires held { (next.standing.to - next.standing.from) * next.strip.width ≤ length between.old }
-    requires between { min (next.strip.height + (composer.composition.reach.up + composer.composition.reach.down)) (picture_in composer.composition.f).height * next.strip.width ≤ length between.old }
+    requires between { min (next.strip.height + (composition.reach.up + composition.reach.down)) (picture_in composition.f).height * next.strip.width ≤ length between.old }
     requires first { next.first ≤ next.strip.y }
     requires room { (next.strip.y - next.first) * next.strip.width + next.strip.height * next.strip.width ≤ length out.old }
-    requires stands { HasImageRows P.level (rule_picture (first_made composer.composition.composite) (picture_in composer.composition.f)) next.standing.from next.standing.to between.old }
+    requires stands { HasImageRows P.level (rule_picture (first_made composition.composite) (picture_in composition.f)) next.standing.from next.standing.to between.old }
     ensures between { length between.new ≡ length between.old }
     ensures size { length out.new ≡ length out.old }
-    ensures stands { IfOk result (λ done. done ≡ true → HasImageRows P.level (rule_picture (first_made composer.entry.composition.composite) (picture_in composer.entry.composition.f)) (seen_from composer.entry.composition.reach next.strip) (seen_to (picture_in composer.entry.composition.f).height composer.entry.composition.reach next.strip) between.new) }
-    ensures made { IfOk result (λ done. done ≡ true → HasImageRows P.level (composite_picture composer.entry.composition.composite (picture_in composer.entry.composition.f)) next.first next.strip.y out.old → HasImageRows P.level (composite_picture composer.entry.composition.composite (picture_in composer.entry.composition.f)) next.first (next.strip.y + next.strip.height) out.new) }
+    ensures stands { IfOk result (λ done. done ≡ true → HasImageRows P.level (rule_picture (first_made composition.entry.composite) (picture_in composition.entry.f)) (seen_from composition.entry.reach next.strip) (seen_to (picture_in composition.entry.f).height composition.entry.reach next.strip) between.new) }
+    ensures made { IfOk result (λ done. done ≡ true → HasImageRows P.level (composite_picture composition.entry.composite (picture_in composition.entry.f)) next.first next.strip.y out.old → HasImageRows P.level (composite_picture composition.entry.composite (picture_in composition.entry.f)) next.first (next.strip.y + next.strip.height) out.new) }
     ensures left_out { IfOk result (λ done. done ≡ false → out.new ≡ out.old) }
     ensures kept { IfErr result (λ _. out.new ≡ out.old) }
 {
@@ -108,15 +113,61 @@ fn put_next_behind<P: Lendable>(
     let count = next.strip.height as usize * width;
     let stop = start + count;
     let rows = &mut out[start..stop];
-    put_next(alloc, lent, composer, next, between, rows)
+    put_next(room, lent, composition, next, between, rows)
 }
 
-/// Rows of an image from the first on up to the end, and how many of them a strip has at most.
+/// What is told of a strip to which memory is refused: that it is not made, where rows stand above it.
+fn stop(y: u32, first: u32) -> Result<bool, NoMemory>
+    ensures some { IfOk result (λ done. done ≡ false) }
+    ensures none { IfErr result (λ _. y ≡ first) }
+{
+    if y == first {
+        return Err(NoMemory);
+    }
+    Ok(false)
+}
+
+/// The same, and where memory is refused behind other rows, it says that the strip is not made.
+fn put_or_stop<P: Lendable>(
+    room: &mut Room<P>,
+    lent: &Lent<P>,
+    composition: Composition<'_>,
+    next: Next<P>,
+    between: &mut [P],
+    out: &mut [P],
+) -> Result<bool, NoMemory>
+    requires sound { IsComposition composition }
+    requires view { IsWholeView P.level lent.now (picture_in composition.f) }
+    requires top { (picture_in composition.f).maxval ≡ P.level next.top }
+    requires strip { AreFrameRows next.strip (picture_in composition.f).width (picture_in composition.f).height }
+    requires behind { next.standing.from ≤ seen_from composition.reach next.strip }
+    requires joined { seen_from composition.reach next.strip ≤ next.standing.to }
+    requires held { (next.standing.to - next.standing.from) * next.strip.width ≤ length between.old }
+    requires between { min (next.strip.height + (composition.reach.up + composition.reach.down)) (picture_in composition.f).height * next.strip.width ≤ length between.old }
+    requires first { next.first ≤ next.strip.y }
+    requires room { (next.strip.y - next.first) * next.strip.width + next.strip.height * next.strip.width ≤ length out.old }
+    requires stands { HasImageRows P.level (rule_picture (first_made composition.composite) (picture_in composition.f)) next.standing.from next.standing.to between.old }
+    ensures between { length between.new ≡ length between.old }
+    ensures size { length out.new ≡ length out.old }
+    ensures stands { IfOk result (λ done. done ≡ true → HasImageRows P.level (rule_picture (first_made composition.entry.composite) (picture_in composition.entry.f)) (seen_from composition.entry.reach next.strip) (seen_to (picture_in composition.entry.f).height composition.entry.reach next.strip) between.new) }
+    ensures made { IfOk result (λ done. done ≡ true → HasImageRows P.level (composite_picture composition.entry.composite (picture_in composition.entry.f)) next.first next.strip.y out.old → HasImageRows P.level (composite_picture composition.entry.composite (picture_in composition.entry.f)) next.first (next.strip.y + next.strip.height) out.new) }
+    ensures left_out { IfOk result (λ done. done ≡ false → out.new ≡ out.old) }
+    ensures none { IfErr result (λ _. next.strip.y ≡ next.first) }
+    ensures kept { IfErr result (λ _. out.new ≡ out.old) }
+{
+    match put_next_behind(room, lent, composition, next, between, out) {
+        Ok(done) => Ok(done),
+        Err(NoMemory) => stop(next.strip.y, next.first),
+    }
+}
+
+/// Rows of an image from the first on up to the end, how many of them a strip has at most, and the sample that changes no least.
 #[derive(Clone, Copy)]
-struct Stretch {
+struct Stretch<P> {
     first: u32,
     end: u32,
     rows: u32,
+    top: P,
 }
 
 /// How many rows the next strip has, where so many are left: those that are too many for one strip and too few for two are halved.
@@ -153,28 +204,36 @@ fn stood_for(strip: Rect, reach: Reach, height: u32) -> Standing
 
 /// Writes the rows strip by strip, as long as there are kernels and memory for that. Returns the row before which all are written.
 fn put_strips<P: Lendable>(
-    alloc: Global,
+    room: &mut Room<P>,
     lent: &Lent<P>,
-    composer: Composer<'_, P>,
-    stretch: Stretch,
+    composition: Composition<'_>,
+    stretch: Stretch<P>,
     between: &mut [P],
     out: &mut [P],
 ) -> Result<u32, NoMemory>
-    requires sound { IsComposition composer.composition }
-    requires view { IsWholeView P.level lent.now (picture_in composer.composition.f) }
-    requires top { (picture_in composer.composition.f).maxval ≡ P.level composer.top }
+    requires sound { IsComposition composition }
+    requires view { IsWholeView P.level lent.now (picture_in composition.f) }
+    requires top { (picture_in composition.f).maxval ≡ P.level stretch.top }
     requires some { 1 ≤ stretch.rows }
-    requires between { min (stretch.rows + (composer.composition.reach.up + composer.composition.reach.down)) (picture_in composer.composition.f).height * (picture_in composer.composition.f).width ≤ length between.old }
-    requires rows { EndAt stretch.first stretch.end (length out.old) (picture_in composer.composition.f) }
+    requires between { min (stretch.rows + (composition.reach.up + composition.reach.down)) (picture_in composition.f).height * (picture_in composition.f).width ≤ length between.old }
+    requires rows { EndAt stretch.first stretch.end (length out.old) (picture_in composition.f) }
     ensures behind { IfOk result (λ to. stretch.first ≤ to) }
     ensures within { IfOk result (λ to. to ≤ stretch.end) }
-    ensures made { IfOk result (λ to. HasImageRows P.level (composite_picture composer.entry.composition.composite (picture_in composer.entry.composition.f)) stretch.first to out.new) }
+    ensures made { IfOk result (λ to. HasImageRows P.level (composite_picture composition.entry.composite (picture_in composition.entry.f)) stretch.first to out.new) }
     ensures none { IfOk result (λ to. to ≡ stretch.first → out.new ≡ out.old) }
     ensures kept { IfErr result (λ _. out.new ≡ out.old) }
 {
-    let Stretch { first, end, rows } = stretch;
-    let reach = composer.composition.reach;
-    let (width, height) = (composer.composition.f.width(), composer.composition.f.height());
+    let Stretch {
+        first,
+        end,
+        rows,
+        top,
+    } = stretch;
+    let reach = composition.reach;
+    let (width, height) = (
+        composition.f.width(),
+        composition.f.height(),
+    );
     let above = first.saturating_sub(reach.up);
     let mut standing = Standing {
         from: above,
@@ -192,25 +251,13 @@ fn put_strips<P: Lendable>(
             strip,
             standing,
             first,
+            top,
         };
-        match put_next_behind(alloc, lent, composer, next, between, out) {
-            Ok(true) => (),
-            Ok(false) => return Ok(done),
-            Err(NoMemory) => return written_before(done, first),
+        if !put_or_stop(room, lent, composition, next, between, out)? {
+            return Ok(done);
         }
         standing = stood_for(strip, reach, height);
         done += strip.height;
-    }
-    Ok(done)
-}
-
-/// Where memory is refused: the row before which rows are written, if there are any.
-fn written_before(done: u32, first: u32) -> Result<u32, NoMemory>
-    ensures some { IfOk result (λ to. (to ≡ done) × (to ≢ first)) }
-    ensures none { IfErr result (λ _. done ≡ first) }
-{
-    if done == first {
-        return Err(NoMemory);
     }
     Ok(done)
 }
@@ -274,7 +321,13 @@ fn rows_of(composition: Composition<'_>, count: u32) -> Option<u32>
     } = composition;
     let beyond = reach.up + reach.down;
     let together = most_rows_beside(composite).saturating_mul(TIMES);
-    rows_of_strip(bytes_of_strip(composite), together, row_size(f), beyond, count)
+    rows_of_strip(
+        bytes_of_strip(composite),
+        together,
+        row_size(f),
+        beyond,
+        count,
+    )
 }
 
 /// Narrower images, and fewer rows of them, are sooner made in planes, where a second extremum looks at what a first one makes.
@@ -331,7 +384,19 @@ pub fn put_composite<P: Lendable>(
     let held = (rows + (reach.up + reach.down)).min(height);
     let mut between = copies(alloc, held as usize * width as usize, top)?;
     let lent = Lent::new(width, height, whole_frame(width, height), samples);
-    let composer = Composer { composition, top };
-    let stretch = Stretch { first, end, rows };
-    put_strips(alloc, &lent, composer, stretch, between.as_mut_slice(), out)
+    let stretch = Stretch {
+        first,
+        end,
+        rows,
+        top,
+    };
+    let mut room = Room::new(alloc);
+    put_strips(
+        &mut room,
+        &lent,
+        composition,
+        stretch,
+        between.as_mut_slice(),
+        out,
+    )
 }

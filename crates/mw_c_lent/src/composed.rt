@@ -22,9 +22,9 @@ use crate::lendable::Lendable;
 use crate::rules::Rule;
 use crate::standing::front_rows;
 use mw_c_arrays::ArrayImage;
+use mw_line_lent::Room;
 use mw_model::{NoMemory, Rect};
 use mw_rank_lent::Lent;
-use std::alloc::Global;
 
 /// What is made of an image, and the sample that changes no least.
 #[derive(Clone, Copy)]
@@ -50,7 +50,7 @@ struct Pair<'a> {
 
 /// Writes the rows of a strip of what two in turn take from an image, if there is a kernel for that.
 fn put_taken_in_turn<P: Lendable>(
-    alloc: Global,
+    room: &mut Room<P>,
     lent: &Lent<P>,
     turn: Turn<'_, P>,
     strip: Rect,
@@ -68,7 +68,7 @@ fn put_taken_in_turn<P: Lendable>(
     ensures left_out { IfOk result (λ done. done ≡ false → out.new ≡ out.old) }
     ensures kept { IfErr result (λ _. out.new ≡ out.old) }
 {
-    if !put_turn(alloc, turn.sequence, turn.top, strip, between, out)? {
+    if !put_turn(room, turn.sequence, turn.top, strip, between, out)? {
         return Ok(false);
     }
     P::subtract_from_row(out, own_rows(lent, strip));
@@ -77,7 +77,7 @@ fn put_taken_in_turn<P: Lendable>(
 
 /// Writes the rows of a strip of what two in turn add to an image, if there is a kernel for that.
 fn put_added_in_turn<P: Lendable>(
-    alloc: Global,
+    room: &mut Room<P>,
     lent: &Lent<P>,
     turn: Turn<'_, P>,
     strip: Rect,
@@ -95,7 +95,7 @@ fn put_added_in_turn<P: Lendable>(
     ensures left_out { IfOk result (λ done. done ≡ false → out.new ≡ out.old) }
     ensures kept { IfErr result (λ _. out.new ≡ out.old) }
 {
-    if !put_turn(alloc, turn.sequence, turn.top, strip, between, out)? {
+    if !put_turn(room, turn.sequence, turn.top, strip, between, out)? {
         return Ok(false);
     }
     P::subtract_row(out, own_rows(lent, strip));
@@ -105,7 +105,7 @@ fn put_added_in_turn<P: Lendable>(
 /// Writes the rows of a strip of what a rule makes less what another makes, of which the rows stand in `between`, if there is a kernel
 /// for that.
 fn put_less_of_rules<P: Lendable>(
-    alloc: Global,
+    room: &mut Room<P>,
     lent: &Lent<P>,
     pair: Pair<'_>,
     strip: Rect,
@@ -122,7 +122,7 @@ fn put_less_of_rules<P: Lendable>(
     ensures left_out { IfOk result (λ done. done ≡ false → out.new ≡ out.old) }
     ensures kept { IfErr result (λ _. out.new ≡ out.old) }
 {
-    if !put_tile(alloc, pair.upper, lent, pair.f.maxval(), strip, out)? {
+    if !put_tile(room, pair.upper, lent, pair.f.maxval(), strip, out)? {
         return Ok(false);
     }
     P::subtract_row(out, front_rows(strip, between));
@@ -131,7 +131,7 @@ fn put_less_of_rules<P: Lendable>(
 
 /// Writes the rows of a strip, of those that stand in `between`, if there is a kernel for that.
 pub(crate) fn put_composed<P: Lendable>(
-    alloc: Global,
+    room: &mut Room<P>,
     lent: &Lent<P>,
     composer: Composer<'_, P>,
     strip: Rect,
@@ -150,23 +150,42 @@ pub(crate) fn put_composed<P: Lendable>(
     ensures kept { IfErr result (λ _. out.new ≡ out.old) }
 {
     let Composer { composition, top } = composer;
-    let Composition { composite, f, reach } = composition;
+    let Composition {
+        composite,
+        f,
+        reach,
+    } = composition;
     match composite {
         Composite::InTurn(first, second) => {
-            let sequence = Sequence { first, second, f, reach };
-            put_turn(alloc, sequence, top, strip, between, out)
+            let sequence = Sequence {
+                first,
+                second,
+                f,
+                reach,
+            };
+            put_turn(room, sequence, top, strip, between, out)
         }
         Composite::Taken(first, second) => {
-            let sequence = Sequence { first, second, f, reach };
-            put_taken_in_turn(alloc, lent, Turn { sequence, top }, strip, between, out)
+            let sequence = Sequence {
+                first,
+                second,
+                f,
+                reach,
+            };
+            put_taken_in_turn(room, lent, Turn { sequence, top }, strip, between, out)
         }
         Composite::Added(first, second) => {
-            let sequence = Sequence { first, second, f, reach };
-            put_added_in_turn(alloc, lent, Turn { sequence, top }, strip, between, out)
+            let sequence = Sequence {
+                first,
+                second,
+                f,
+                reach,
+            };
+            put_added_in_turn(room, lent, Turn { sequence, top }, strip, between, out)
         }
         Composite::Less(upper, lower) => {
             let pair = Pair { upper, lower, f };
-            put_less_of_rules(alloc, lent, pair, strip, between, out)
+            put_less_of_rules(room, lent, pair, strip, between, out)
         }
     }
 }

@@ -17,6 +17,7 @@ use crate::rules::Rule;
 use mw_c_arrays::ArrayImage;
 use mw_element::Element;
 use mw_grid::whole_frame;
+use mw_line_lent::Room;
 use mw_model::{NoMemory, OffsetBox, Rect};
 use mw_rank_lent::{Lent, medians_into};
 use std::alloc::Global;
@@ -64,7 +65,7 @@ pub fn middle_of<'a>(rule: Rule<'a>, f: ArrayImage<'a>, first: u32, end: u32) ->
 
 /// Writes the least under an element, in a tile of an image with this maxval.
 fn put_least_under<P: Lendable>(
-    alloc: Global,
+    room: &mut Room<P>,
     lent: &Lent<P>,
     element: &Element,
     maxval: u16,
@@ -79,12 +80,12 @@ fn put_least_under<P: Lendable>(
     let Some(neutral) = P::of(maxval) else {
         return Ok(false);
     };
-    P::least_under(alloc, lent, element.offsets(), neutral, tile, out)
+    P::least_under(room, lent, element.offsets(), neutral, tile, out)
 }
 
 /// Writes the greatest under an element, in a tile.
 fn put_greatest_under<P: Lendable>(
-    alloc: Global,
+    room: &mut Room<P>,
     lent: &Lent<P>,
     element: &Element,
     tile: Rect,
@@ -95,7 +96,7 @@ fn put_greatest_under<P: Lendable>(
     ensures left_out { IfOk result (λ done. done ≡ false → out.new ≡ out.old) }
     ensures kept { IfErr result (λ _. out.new ≡ out.old) }
 {
-    P::greatest_under(alloc, lent, element.offsets(), tile, out)
+    P::greatest_under(room, lent, element.offsets(), tile, out)
 }
 
 /// Writes the least under a full rectangle, in a tile of an image with this maxval.
@@ -136,7 +137,7 @@ fn put_greatest<P: Lendable>(
 
 /// Writes what a rule makes in a tile of an image with this maxval, if there is a kernel for it.
 pub(crate) fn put_tile<P: Lendable>(
-    alloc: Global,
+    room: &mut Room<P>,
     rule: Rule<'_>,
     lent: &Lent<P>,
     maxval: u16,
@@ -149,11 +150,11 @@ pub(crate) fn put_tile<P: Lendable>(
     ensures kept { IfErr result (λ _. out.new ≡ out.old) }
 {
     match rule {
-        Rule::Nth(element, k) => medians_into(alloc, lent, element.offsets(), k, tile, out),
-        Rule::Least(element) => put_least_under(alloc, lent, element, maxval, tile, out),
-        Rule::Greatest(element) => put_greatest_under(alloc, lent, element, tile, out),
-        Rule::LeastBox(offsets) => put_least(alloc, lent, offsets, maxval, tile, out),
-        Rule::GreatestBox(offsets) => put_greatest(alloc, lent, offsets, tile, out),
+        Rule::Nth(element, k) => medians_into(room.alloc, lent, element.offsets(), k, tile, out),
+        Rule::Least(element) => put_least_under(room, lent, element, maxval, tile, out),
+        Rule::Greatest(element) => put_greatest_under(room, lent, element, tile, out),
+        Rule::LeastBox(offsets) => put_least(room.alloc, lent, offsets, maxval, tile, out),
+        Rule::GreatestBox(offsets) => put_greatest(room.alloc, lent, offsets, tile, out),
         Rule::AtLeast(_) => Ok(false),
     }
 }
@@ -181,5 +182,6 @@ pub fn put_middle<P: Lendable>(
         width,
         height: middle.to - middle.from,
     };
-    put_tile(alloc, middle.rule, &lent, middle.f.maxval(), tile, out)
+    let mut room = Room::new(alloc);
+    put_tile(&mut room, middle.rule, &lent, middle.f.maxval(), tile, out)
 }

@@ -19,9 +19,9 @@ use crate::rules::Rule;
 use crate::standing::front_rows;
 use mw_c_arrays::ArrayImage;
 use mw_grid::grown;
+use mw_line_lent::Room;
 use mw_model::{NoMemory, Reach, Rect};
 use mw_rank_lent::Lent;
-use std::alloc::Global;
 
 /// How far an extremum under an element looks.
 pub(crate) fn reach_of(rule: Rule<'_>) -> Option<Reach>
@@ -40,7 +40,7 @@ pub(crate) fn reach_of(rule: Rule<'_>) -> Option<Reach>
 
 /// Writes an extremum under an element, in a tile of what is lent. The least of none is the top.
 fn put_under<P: Lendable>(
-    alloc: Global,
+    room: &mut Room<P>,
     rule: Rule<'_>,
     top: P,
     lent: &Lent<P>,
@@ -53,8 +53,8 @@ fn put_under<P: Lendable>(
     ensures kept { IfErr result (λ _. out.new ≡ out.old) }
 {
     match rule {
-        Rule::Least(element) => P::least_under(alloc, lent, element.offsets(), top, tile, out),
-        Rule::Greatest(element) => P::greatest_under(alloc, lent, element.offsets(), tile, out),
+        Rule::Least(element) => P::least_under(room, lent, element.offsets(), top, tile, out),
+        Rule::Greatest(element) => P::greatest_under(room, lent, element.offsets(), tile, out),
         Rule::LeastBox(_) => Ok(false),
         Rule::GreatestBox(_) => Ok(false),
         Rule::Nth(_, _) => Ok(false),
@@ -74,7 +74,7 @@ pub(crate) struct Sequence<'a> {
 /// Writes the rows of a strip, of the rows of the first extremum that stand in `between`, if there is a kernel for that. `top` is the
 /// sample that changes no least.
 pub(crate) fn put_turn<P: Lendable>(
-    alloc: Global,
+    room: &mut Room<P>,
     sequence: Sequence<'_>,
     top: P,
     strip: Rect,
@@ -95,5 +95,5 @@ pub(crate) fn put_turn<P: Lendable>(
     let place = grown(strip, sequence.reach, width, height);
     let rows = front_rows(place, between);
     let seen = Lent::new(width, height, place, rows);
-    put_under(alloc, sequence.second, top, &seen, strip, out)
+    put_under(room, sequence.second, top, &seen, strip, out)
 }

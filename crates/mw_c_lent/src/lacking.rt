@@ -15,9 +15,9 @@ use crate::rules::Rule;
 use crate::standing::{Standing, move_to_front};
 use mw_c_arrays::ArrayImage;
 use mw_grid::grown;
+use mw_line_lent::Room;
 use mw_model::{NoMemory, Reach, Rect};
 use mw_rank_lent::Lent;
-use std::alloc::Global;
 
 /// The extremum of an image whose rows stand, and how far beyond a strip they are looked at.
 #[derive(Clone, Copy)]
@@ -44,7 +44,7 @@ fn made_from(standing: Standing, width: u32, end: u32) -> u32
 
 /// Makes the rows that are lacking behind those that stand, before row `end`, if there is a kernel for that.
 fn make_lacking<P: Lendable>(
-    alloc: Global,
+    room: &mut Room<P>,
     lent: &Lent<P>,
     source: Source<'_>,
     standing: Standing,
@@ -75,12 +75,12 @@ fn make_lacking<P: Lendable>(
     let count = tile.height as usize * width as usize;
     let stop = start + count;
     let rows = &mut between[start..stop];
-    put_tile(alloc, source.rule, lent, source.f.maxval(), tile, rows)
+    put_tile(room, source.rule, lent, source.f.maxval(), tile, rows)
 }
 
 /// Lets those rows stand that are looked at for a strip, where some stand for the strip before, if there is a kernel for that.
 pub(crate) fn let_stand<P: Lendable>(
-    alloc: Global,
+    room: &mut Room<P>,
     lent: &Lent<P>,
     source: Source<'_>,
     strip: Rect,
@@ -96,7 +96,7 @@ pub(crate) fn let_stand<P: Lendable>(
     requires between { min (strip.height + (source.reach.up + source.reach.down)) (picture_in source.f).height * strip.width ≤ length between.old }
     requires stands { HasImageRows P.level (rule_picture source.rule (picture_in source.f)) standing.from standing.to between.old }
     ensures between { length between.new ≡ length between.old }
-    ensures made { IfOk result (λ done. done ≡ true → HasImageRows P.level (rule_picture source.entry.rule (picture_in source.entry.f)) (seen_from source.reach strip) (seen_to (picture_in source.entry.f).height source.reach strip) between.new) }
+    ensures made { IfOk result (λ done. done ≡ true → HasImageRows P.level (rule_picture source.entry.rule (picture_in source.entry.f)) (seen_from source.entry.reach strip) (seen_to (picture_in source.entry.f).height source.entry.reach strip) between.new) }
 {
     let (width, height) = (source.f.width(), source.f.height());
     let place = grown(strip, source.reach, width, height);
@@ -105,5 +105,5 @@ pub(crate) fn let_stand<P: Lendable>(
         from: place.y,
         to: standing.to,
     };
-    make_lacking(alloc, lent, source, kept, place.y + place.height, between)
+    make_lacking(room, lent, source, kept, place.y + place.height, between)
 }

@@ -12,13 +12,14 @@ ghost use Rattle.mw_line_lent.specs.Near.{IsAround, StandsInside};
 ghost use Rattle.mw_c_lent.specs.Boxes.{IsMadeUnder};
 ghost use Rattle.mw_c_lent.specs.Levels.{HasLevelsUpTo};
 ghost use Rattle.mw_c_lent.specs.Slides.{range_value};
+ghost use Rattle.mw_c_lent.specs.Suited.{SuitTile};
 
 use crate::subtracting::subtract_from;
 use mw_c_arrays::ArrayImage;
 use mw_chord_lent::chords_into;
 use mw_line::lane::subtract_rows;
 use mw_line_lent::{
-    Ends, Laned, LanedExtremum, Lent, Max, Min, boxes_into, boxes_with_room, differences_into,
+    Ends, Laned, LanedExtremum, Lent, Max, Min, Room, boxes_into, boxes_with_room, differences_into,
 };
 use mw_model::{NoMemory, Offset, OffsetBox, Rect};
 use mw_offset_lent::{is_quick, offsets_into};
@@ -97,7 +98,7 @@ pub trait Lendable: Broad {
     /// Writes the least of the neutral sample and those that are lent under offsets, at each place of a tile, if it can. Says
     /// whether it did: where not, it writes nothing. It may want memory (`NoMemory`), but only before it writes.
     fn least_under(
-        alloc: Global,
+        room: &mut Room<Self>,
         lent: &Lent<Self>,
         offsets: &[Offset],
         neutral: Self,
@@ -106,12 +107,13 @@ pub trait Lendable: Broad {
     ) -> Result<bool, NoMemory>
         requires { length out.old ≡ tile.height * tile.width }
         ensures made { IfOk result (λ done. done ≡ true → IsMadeUnder (least (Self.level neutral)) Self.level (seen_at lent.now) offsets.now tile out.new) }
+        ensures taken { SuitTile offsets.now tile → IfOk result (λ done. done ≡ true) }
         ensures left_out { IfOk result (λ done. done ≡ false → out.new ≡ out.old) }
         ensures kept { IfErr result (λ _. out.new ≡ out.old) };
 
     /// The same of the greatest, which is 0 where none is seen.
     fn greatest_under(
-        alloc: Global,
+        room: &mut Room<Self>,
         lent: &Lent<Self>,
         offsets: &[Offset],
         tile: Rect,
@@ -119,6 +121,7 @@ pub trait Lendable: Broad {
     ) -> Result<bool, NoMemory>
         requires { length out.old ≡ tile.height * tile.width }
         ensures made { IfOk result (λ done. done ≡ true → IsMadeUnder greatest Self.level (seen_at lent.now) offsets.now tile out.new) }
+        ensures taken { SuitTile offsets.now tile → IfOk result (λ done. done ≡ true) }
         ensures left_out { IfOk result (λ done. done ≡ false → out.new ≡ out.old) }
         ensures kept { IfErr result (λ _. out.new ≡ out.old) };
 
@@ -154,15 +157,17 @@ const ROWS: u32 = 8;
 
 const SAMPLES: u32 = 8192;
 
-/// Whether a tile is so small that offsets are sooner merged in a window of it. Any answer is right.
-fn is_small(tile: Rect) -> bool {
+/// Whether a tile is so small that offsets are sooner merged in a window of it.
+fn is_small(tile: Rect) -> bool
+    ensures { 8 ≤ tile.height → 8192 ≤ tile.width * tile.height → result ≡ false }
+{
     tile.height < ROWS || tile.width.saturating_mul(tile.height) < SAMPLES
 }
 
 /// Writes the extremum of the neutral sample and those that are lent under offsets, at each place of a tile, if it can: offset by
-/// offset where they lie in short runs, and else by the chords of the runs.
+/// offset where they lie in short runs, and else by the chords of the runs, or again by offsets where these are refused.
 fn extremum_under<P: Laned, E: LanedExtremum<P>>(
-    alloc: Global,
+    room: &mut Room<P>,
     lent: &Lent<P>,
     offsets: &[Offset],
     neutral: P,
@@ -171,6 +176,7 @@ fn extremum_under<P: Laned, E: LanedExtremum<P>>(
 ) -> Result<bool, NoMemory>
     requires { length out.old ≡ tile.height * tile.width }
     ensures over_window { IfOk result (λ done. done ≡ true → IsSlidingExtremum E.merge neutral (seen_at lent.now) offsets.now tile (raster tile.width tile.height out.new)) }
+    ensures taken { 4 ≤ P.WIDTH → P.WIDTH ≤ 32 → SuitTile offsets.now tile → IfOk result (λ done. done ≡ true) }
     ensures left_out { IfOk result (λ done. done ≡ false → out.new ≡ out.old) }
     ensures kept { IfErr result (λ _. out.new ≡ out.old) }
 {
@@ -178,9 +184,12 @@ fn extremum_under<P: Laned, E: LanedExtremum<P>>(
         return Ok(false);
     }
     if is_quick(offsets) {
-        return offsets_into::<P, E>(alloc, lent, offsets, neutral, tile, out);
+        return offsets_into::<P, E>(room, lent, offsets, neutral, tile, out);
     }
-    chords_into::<P, E>(alloc, lent, offsets, neutral, tile, out)
+    if chords_into::<P, E>(room, lent, offsets, neutral, tile, out)? {
+        return Ok(true);
+    }
+    offsets_into::<P, E>(room, lent, offsets, neutral, tile, out)
 }
 
 impl Lendable for u8 {
@@ -235,24 +244,24 @@ impl Lendable for u8 {
     }
 
     fn least_under(
-        alloc: Global,
+        room: &mut Room<u8>,
         lent: &Lent<u8>,
         offsets: &[Offset],
         neutral: u8,
         tile: Rect,
         out: &mut [u8],
     ) -> Result<bool, NoMemory> {
-        extremum_under::<u8, Min>(alloc, lent, offsets, neutral, tile, out)
+        extremum_under::<u8, Min>(room, lent, offsets, neutral, tile, out)
     }
 
     fn greatest_under(
-        alloc: Global,
+        room: &mut Room<u8>,
         lent: &Lent<u8>,
         offsets: &[Offset],
         tile: Rect,
         out: &mut [u8],
     ) -> Result<bool, NoMemory> {
-        extremum_under::<u8, Max>(alloc, lent, offsets, 0, tile, out)
+        extremum_under::<u8, Max>(room, lent, offsets, 0, tile, out)
     }
 
     fn subtract_row(row: &mut [u8], other: &[u8]) {
@@ -328,24 +337,24 @@ impl Lendable for u16 {
     }
 
     fn least_under(
-        alloc: Global,
+        room: &mut Room<u16>,
         lent: &Lent<u16>,
         offsets: &[Offset],
         neutral: u16,
         tile: Rect,
         out: &mut [u16],
     ) -> Result<bool, NoMemory> {
-        extremum_under::<u16, Min>(alloc, lent, offsets, neutral, tile, out)
+        extremum_under::<u16, Min>(room, lent, offsets, neutral, tile, out)
     }
 
     fn greatest_under(
-        alloc: Global,
+        room: &mut Room<u16>,
         lent: &Lent<u16>,
         offsets: &[Offset],
         tile: Rect,
         out: &mut [u16],
     ) -> Result<bool, NoMemory> {
-        extremum_under::<u16, Max>(alloc, lent, offsets, 0, tile, out)
+        extremum_under::<u16, Max>(room, lent, offsets, 0, tile, out)
     }
 
     fn subtract_row(row: &mut [u16], other: &[u16]) {

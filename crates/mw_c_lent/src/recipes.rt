@@ -208,7 +208,13 @@ pub(crate) fn row_size(f: ArrayImage<'_>) -> u32
 
 /// How many rows a strip of about so many bytes has, if all are in memory: where that holds more, as many as are made together, and
 /// four times as many as are moved for the next strip.
-pub(crate) fn rows_of_strip(bytes: u32, together: u32, row_size: u32, beyond: u32, height: u32) -> Option<u32>
+pub(crate) fn rows_of_strip(
+    bytes: u32,
+    together: u32,
+    row_size: u32,
+    beyond: u32,
+    height: u32,
+) -> Option<u32>
     requires bytes { bytes ≤ 262144 }
     requires size { 1 ≤ row_size }
     requires few { beyond ≤ 255 }

@@ -38,7 +38,12 @@ pub(crate) struct Maker<P> {
 }
 
 /// Moves the rows that stand to the front, without those above row `from`.
-pub(crate) fn move_to_front<P: Lendable>(standing: Standing, from: u32, width: u32, between: &mut [P])
+pub(crate) fn move_to_front<P: Lendable>(
+    standing: Standing,
+    from: u32,
+    width: u32,
+    between: &mut [P],
+)
     requires behind { standing.from ≤ from }
     requires joined { from ≤ standing.to }
     requires held { (standing.to - standing.from) * width ≤ length between.old }

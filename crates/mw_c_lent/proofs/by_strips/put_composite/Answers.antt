@@ -1,0 +1,53 @@
+use Rattle.std.proofs.Common.{◌≡◌, ℕ, ◌+◌, ◌*◌, ◌≤◌, min, length, ap, sym, subst, arith, ◌∙◌}
+use Rattle.std.proofs.lemmas.Nat.{mul-le}
+use Rattle.std.proofs.lemmas.Result.{IfOk-weaker}
+use Rattle.mw_c_arrays.specs.declared.sources.ArrayImage.{ArrayImage}
+use Rattle.mw_c_arrays.specs.Sources.{picture_in}
+use Rattle.mw_c_arrays.proofs.SourceImages.{source_image}
+use Rattle.mw_c_lent.specs.declared.composites.Composite.{Composite}
+use Rattle.mw_c_lent.specs.Composites.{composite_picture}
+use Rattle.mw_c_lent.specs.InPlace.{IsWholeView}
+use Rattle.mw_c_lent.specs.Rows.{EndAt, HasImageRows}
+use Rattle.mw_c_lent.proofs.Views.{whole_count, whole_is}
+use Rattle.mw_c_lent.proofs.by_strips.put_composite.Goals as goal
+
+pub overflow_mul-arg : goal.overflow_mul-arg
+overflow_mul-arg g c =
+    let image = source_image c.args.f c.requires.sound in
+    omega (arith, mul-le c.min-held.result c.width-width.result 8192 8192 (omega (arith, c.min-held.ensures, c.height-height.ensures, image.height.1)) (omega (arith, c.width-width.ensures, image.width.1)))
+
+pub put_strips-requires-clause-view : goal.put_strips-requires-clause-view
+put_strips-requires-clause-view g c =
+    let level = g.P.Pixel.level in
+    let f = picture_in c.args.f in
+    let w = c.new-lent.result in
+    let image = source_image c.args.f c.requires.sound in
+    let whole : IsWholeView level w f =
+    whole_is level w f c.width-width.result c.height-height.result c.whole_frame.result c.in-Some.samples.now c.width-width.ensures c.height-height.ensures c.whole_frame.ensures.value c.new-lent.ensures c.in-Some.ensures.samples image.picture.size in
+    subst (λ (a : ArrayImage). IsWholeView level w (picture_in a)) (sym c.in-Some-composition_of.ensures.image) whole
+
+pub put_strips-requires-clause-top : goal.put_strips-requires-clause-top
+put_strips-requires-clause-top g c = ap (λ (a : ArrayImage). (picture_in a).maxval) c.in-Some-composition_of.ensures.image ∙ sym (c.in-Some-of.ensures.level ∙ c.maxval.ensures)
+
+pub put_strips-requires-clause-rows : goal.put_strips-requires-clause-rows
+put_strips-requires-clause-rows g c = subst (λ (a : ArrayImage). EndAt c.args.first c.args.end (length c.args.out.now) (picture_in a)) (sym c.in-Some-composition_of.ensures.image) c.requires.rows
+
+pub put_strips-requires-clause-between : goal.put_strips-requires-clause-between
+put_strips-requires-clause-between g c =
+    let k = c.in-Some-composition_of.composition in
+    let rows = c.in-Some-rows_of.rows in
+    let most : ℕ → ℕ = λ h. min (rows + (k.reach.up + k.reach.down)) h in
+    ?
+
+pub returns-clause-made : goal.returns-clause-made
+returns-clause-made g c =
+    let level = g.P.Pixel.level in
+    let k = c.in-Some-composition_of.composition in
+    let first = c.args.first in
+    let out = c.put_strips.new.out in
+    IfOk-weaker c.put_strips.result (λ to. HasImageRows level (composite_picture k.composite (picture_in k.f)) first to out)
+    (λ to. HasImageRows level (composite_picture c.args.composite (picture_in c.args.f)) first to out)
+    (λ to made.
+    subst (λ (x : Composite). HasImageRows level (composite_picture x (picture_in c.args.f)) first to out) c.in-Some-composition_of.ensures.composite
+    (subst (λ (a : ArrayImage). HasImageRows level (composite_picture k.composite (picture_in a)) first to out) c.in-Some-composition_of.ensures.image made))
+    c.put_strips.ensures.made
