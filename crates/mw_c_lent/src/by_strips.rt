@@ -230,10 +230,7 @@ fn put_strips<P: Lendable>(
         top,
     } = stretch;
     let reach = composition.reach;
-    let (width, height) = (
-        composition.f.width(),
-        composition.f.height(),
-    );
+    let (width, height) = (composition.f.width(), composition.f.height());
     let above = first.saturating_sub(reach.up);
     let mut standing = Standing {
         from: above,

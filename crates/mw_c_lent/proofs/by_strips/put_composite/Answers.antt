@@ -1,4 +1,5 @@
-use Rattle.std.proofs.Common.{◌≡◌, ℕ, ◌+◌, ◌*◌, ◌≤◌, min, length, ap, sym, subst, arith, ◌∙◌}
+use Rattle.std.proofs.Common.{◌≡◌, ℕ, ◌+◌, ◌*◌, ◌≤◌, min, List, length, ap, sym, subst, arith, ◌∙◌}
+use Rattle.std.proofs.lemmas.List.{length-replicate}
 use Rattle.std.proofs.lemmas.Nat.{mul-le}
 use Rattle.std.proofs.lemmas.Result.{IfOk-weaker}
 use Rattle.mw_c_arrays.specs.declared.sources.ArrayImage.{ArrayImage}
@@ -8,11 +9,12 @@ use Rattle.mw_c_lent.specs.declared.composites.Composite.{Composite}
 use Rattle.mw_c_lent.specs.Composites.{composite_picture}
 use Rattle.mw_c_lent.specs.InPlace.{IsWholeView}
 use Rattle.mw_c_lent.specs.Rows.{EndAt, HasImageRows}
-use Rattle.mw_c_lent.proofs.Views.{whole_count, whole_is}
+use Rattle.mw_c_lent.proofs.InStrips.{held_room}
+use Rattle.mw_c_lent.proofs.Views.{whole_is}
 use Rattle.mw_c_lent.proofs.by_strips.put_composite.Goals as goal
 
-pub overflow_mul-arg : goal.overflow_mul-arg
-overflow_mul-arg g c =
+pub overflow_mul-held : goal.overflow_mul-held
+overflow_mul-held g c =
     let image = source_image c.args.f c.requires.sound in
     omega (arith, mul-le c.min-held.result c.width-width.result 8192 8192 (omega (arith, c.min-held.ensures, c.height-height.ensures, image.height.1)) (omega (arith, c.width-width.ensures, image.width.1)))
 
@@ -35,9 +37,14 @@ put_strips-requires-clause-rows g c = subst (λ (a : ArrayImage). EndAt c.args.f
 pub put_strips-requires-clause-between : goal.put_strips-requires-clause-between
 put_strips-requires-clause-between g c =
     let k = c.in-Some-composition_of.composition in
+    let f = picture_in c.args.f in
+    let beyond : ℕ = k.reach.up + k.reach.down in
     let rows = c.in-Some-rows_of.rows in
-    let most : ℕ → ℕ = λ h. min (rows + (k.reach.up + k.reach.down)) h in
-    ?
+    let n : ℕ = length c.as_mut_slice.result.now in
+    let held : c.min-held.result ≡ min (rows + beyond) f.height = omega (arith, c.min-held.ensures, c.height-height.ensures) in
+    let room : min (rows + beyond) f.height * f.width ≤ n =
+    held_room c.min-held.result (min (rows + beyond) f.height) c.width-width.result f.width n held c.width-width.ensures (ap (λ (xs : List _). length xs) (c.as_mut_slice.ensures.value ∙ c.in_ok-between.ensures) ∙ length-replicate (c.min-held.result * c.width-width.result) c.in-Some-of.top) in
+    subst (λ (a : ArrayImage). min (rows + beyond) (picture_in a).height * (picture_in a).width ≤ n) (sym c.in-Some-composition_of.ensures.image) room
 
 pub returns-clause-made : goal.returns-clause-made
 returns-clause-made g c =

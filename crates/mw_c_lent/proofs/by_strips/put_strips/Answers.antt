@@ -52,7 +52,7 @@ strips-preserved g c =
       between = c.put_or_stop.ensures.between ∙ i.between;
       size = c.put_or_stop.ensures.size ∙ i.size;
       stands = rows_at level (rule_picture (first_made k.composite) f) (seen_from k.reach strip) (seen_to f.height k.reach strip) stood.from stood.to between (sym c.stood_for-standing.ensures.from)
-      (sym (subst (λ (t : ℕ). stood.to ≡ seen_to t k.reach strip) c.height-height.ensures c.stood_for-standing.ensures.to)) (c.in_ok-put_or_stop.ensures.stands c.if-not-branch.false);
+          (sym (subst (λ (t : ℕ). stood.to ≡ seen_to t k.reach strip) c.height-height.ensures c.stood_for-standing.ensures.to)) (c.in_ok-put_or_stop.ensures.stands c.if-not-branch.false);
       made = c.in_ok-put_or_stop.ensures.made c.if-not-branch.false i.made;
       none = λ same. absurd (omega (arith, same, i.begun, c.strip_height.ensures.some));
     }
