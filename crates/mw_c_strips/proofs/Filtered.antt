@@ -7,9 +7,13 @@ use Rattle.mw_c_arrays.specs.Sources.{IsArrayImage, array_sample_count, picture_
 use Rattle.mw_c_arrays.proofs.SourceImages.{source_image, source_samples}
 use Rattle.mw_c_lent.specs.declared.rules.Rule.{Rule}
 use Rattle.mw_c_lent.specs.declared.rules.Rule.TheVariants as rules
+use Rattle.mw_c_lent.specs.declared.composites.Composite.{Composite}
+use Rattle.mw_c_lent.specs.declared.composites.Composite.TheVariants as composites
+use Rattle.mw_c_lent.specs.Composites.{composite_picture}
 use Rattle.mw_c_forms.specs.Forms.{IsSlide}
 use Rattle.mw_c_layers.specs.Layers.{rule_picture}
 use Rattle.mw_c_strips.specs.Refilled.{refilled}
+use Rattle.mw_c_strips.specs.Rows.{EndAt}
 use Rattle.mw_c_layers.proofs.OriginImages.{rule_image}
 
 -- so many samples fill the sides
@@ -41,6 +45,13 @@ less_alike r s f first second =
     let a = rule_shape r f first in
     let b = rule_shape s f second in
     record { kind = b.kind ∙ sym a.kind; width = b.width ∙ sym a.width; height = b.height ∙ sym a.height; maxval = b.maxval ∙ sym a.maxval }
+
+-- so many rows of what two rules make are as many of the image
+pub composite_ends : (x : Composite) (f : Picture) (first end count : ℕ) → EndAt first end count (composite_picture x f) → EndAt first end count f
+composite_ends (composites.InTurn a b) f first end count is = record { some = is.some; within = is.within; samples = is.samples }
+composite_ends (composites.Taken a b) f first end count is = record { some = is.some; within = is.within; samples = is.samples }
+composite_ends (composites.Added a b) f first end count is = record { some = is.some; within = is.within; samples = is.samples }
+composite_ends (composites.Less a b) f first end count is = record { some = is.some; within = is.within; samples = is.samples }
 
 -- ---- planes between two steps
 

@@ -3,6 +3,5 @@ mod Filtered
 mod Gathered
 mod InPlace
 mod PixelValues
-mod Placed
 mod Refilled
 mod SomeRows

@@ -15,11 +15,13 @@ ghost use Rattle.mw_c_layers.specs.Origins.{IsOrigin};
 use crate::Sample;
 use crate::cuts::are_by_strips;
 use crate::gathering::{levels_made, set_made};
-use crate::writing::write_all;
+use crate::writing::{write_all, write_composite};
 use mw_c_arrays::ArrayImage;
 use mw_c_forms::{Form, Rest, form_of};
 use mw_c_layers::{Formula, Layer, Origin};
-use mw_c_lent::{Rule, put_difference, put_two_steps, put_what_is_added, put_what_is_taken};
+use mw_c_lent::{
+    Composite, Rule, put_difference, put_two_steps, put_what_is_added, put_what_is_taken,
+};
 use mw_model::NoMemory;
 use mw_plan::Plan;
 use std::alloc::Global;
@@ -52,7 +54,8 @@ fn one<P: Sample>(
     write_all(alloc, Formula::One(Layer::By(rule, Origin::Array(f))), out)
 }
 
-/// Writes what one rule makes, less what another makes of the same image.
+/// Writes what one rule makes, less what another makes of the same image: where rows stand if there are kernels for that, else by
+/// strips.
 fn difference<P: Sample>(
     alloc: Global,
     upper: Rule<'_>,
@@ -71,14 +74,12 @@ fn difference<P: Sample>(
     if put_difference(alloc, upper, lower, f, out)? {
         return Ok(());
     }
-    write_all(
-        alloc,
-        Formula::Less(
-            Layer::By(upper, Origin::Array(f)),
-            Layer::By(lower, Origin::Array(f)),
-        ),
-        out,
-    )
+    let origin = Origin::Array(f);
+    let formula = Formula::Less(Layer::By(upper, origin), Layer::By(lower, origin));
+    if write_composite(alloc, Composite::Less(upper, lower), f, formula, out)? {
+        return Ok(());
+    }
+    write_all(alloc, formula, out)
 }
 
 /// Writes what two rules in turn make of a set, with words between them.
@@ -103,8 +104,8 @@ fn in_turn_of_set<P: Sample>(
     write_all(alloc, Formula::One(layer), out)
 }
 
-/// Writes what two rules in turn make of levels: in place where there are kernels for that, else with one strip between them, or with a
-/// plane where that takes less memory.
+/// Writes what two rules in turn make of levels: where rows stand if there are kernels for that, else with one strip between them, or
+/// with a plane where that takes less memory.
 fn in_turn_of_levels<P: Sample>(
     alloc: Global,
     first: Rule<'_>,
@@ -124,9 +125,12 @@ fn in_turn_of_levels<P: Sample>(
     if put_two_steps(alloc, first, second, f, out)? {
         return Ok(());
     }
+    let formula = Formula::One(Layer::Twice(second, first, f));
+    if write_composite(alloc, Composite::InTurn(first, second), f, formula, out)? {
+        return Ok(());
+    }
     if are_by_strips(second, first, f) {
-        let layer = Layer::Twice(second, first, f);
-        return write_all(alloc, Formula::One(layer), out);
+        return write_all(alloc, formula, out);
     }
     let plane = levels_made::<P>(alloc, first, f)?;
     let between = P::like(f, plane.as_slice());
@@ -202,7 +206,7 @@ fn residue_of_set<P: Sample>(
     left_over(alloc, rest, f, layer, out)
 }
 
-/// Writes what is left over where there are kernels for that.
+/// Writes what is left over by full rectangles, where there are kernels for that.
 fn put_left_over<P: Sample>(
     alloc: Global,
     rest: Rest,
@@ -221,6 +225,38 @@ fn put_left_over<P: Sample>(
     match rest {
         Rest::Taken => put_what_is_taken(alloc, first, second, f, out),
         Rest::Added => put_what_is_added(alloc, first, second, f, out),
+    }
+}
+
+/// Writes what is left over by elements of any shape, where kernels make rows of it.
+fn write_left_over<P: Sample>(
+    alloc: Global,
+    rest: Rest,
+    first: Rule<'_>,
+    second: Rule<'_>,
+    f: ArrayImage<'_>,
+    out: &mut [P],
+) -> Result<bool, NoMemory>
+    requires sound { IsArrayImage f }
+    requires room { length out.old ≡ (picture_in f).height * (picture_in f).width }
+    requires first { IsSlide first }
+    requires second { IsSlide second }
+    requires stands { P.stands (picture_in f).maxval }
+    ensures made { IfOk result (λ done. done ≡ true → map P.level out.new ≡ (rest_picture rest (picture_in f.entry) (rule_picture second.entry (rule_picture first.entry (picture_in f.entry)))).samples) }
+    ensures left_out { IfOk result (λ done. done ≡ false → out.new ≡ out.old) }
+    ensures kept { IfErr result (λ _. out.new ≡ out.old) }
+{
+    let itself = Layer::Itself(f);
+    let layer = Layer::Twice(second, first, f);
+    match rest {
+        Rest::Taken => {
+            let formula = Formula::Less(itself, layer);
+            write_composite(alloc, Composite::Taken(first, second), f, formula, out)
+        }
+        Rest::Added => {
+            let formula = Formula::Less(layer, itself);
+            write_composite(alloc, Composite::Added(first, second), f, formula, out)
+        }
     }
 }
 
@@ -244,6 +280,9 @@ fn residue_of_levels<P: Sample>(
     ensures kept { IfErr result (λ _. out.new ≡ out.old) }
 {
     if put_left_over(alloc, rest, first, second, f, out)? {
+        return Ok(());
+    }
+    if write_left_over(alloc, rest, first, second, f, out)? {
         return Ok(());
     }
     if are_by_strips(second, first, f) {

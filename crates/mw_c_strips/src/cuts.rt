@@ -130,8 +130,8 @@ fn rows_of_steps(second: Rule<'_>, first: Rule<'_>, row_size: u32) -> u32
 /// Planes of so many bytes stay near the processor, and are made sooner than strips that overlap.
 const SMALL_PLANE: u32 = 2097152;
 
-/// In frames of so many columns and rows kernels write strips where they are to stand, of elements that look so many rows beyond a place
-/// at most: sooner than by way of a plane, however small it is.
+/// Frames of so many columns and rows are made by strips, however small a plane is, under elements that look so many rows beyond a
+/// place at most. Kernels of rows that stand are tried before: what comes here is what they refuse.
 const COLUMNS: u32 = 128;
 
 const ROWS: u32 = 64;
@@ -150,16 +150,17 @@ fn is_under(rule: Rule<'_>) -> bool {
     }
 }
 
-/// Whether two steps are extrema for which kernels may write strips where they are to stand.
-fn may_stand(second: Rule<'_>, first: Rule<'_>, f: ArrayImage<'_>) -> bool {
+/// Whether two steps are extrema under elements, the second one of few rows, of a large frame.
+fn are_low_extrema(second: Rule<'_>, first: Rule<'_>, f: ArrayImage<'_>) -> bool {
     let is_large = f.width() >= COLUMNS && f.height() >= ROWS;
     let is_low = rows_beyond(second) <= BEYOND;
     is_large && is_low && is_under(first) && is_under(second)
 }
 
-/// Whether two steps are made by strips: where kernels may write these, or a plane between the two is large, and takes more memory.
+/// Whether two steps are made by strips: where these have few rows to make again, or a plane between the two is large, and takes more
+/// memory.
 pub(crate) fn are_by_strips(second: Rule<'_>, first: Rule<'_>, f: ArrayImage<'_>) -> bool {
-    if may_stand(second, first, f) {
+    if are_low_extrema(second, first, f) {
         return true;
     }
     let row_size = row_size(Origin::Array(f));

@@ -1,11 +1,11 @@
 //! Flat operators from a caller's array into a caller's array, by strips of rows: what a strip reads and what is made of it
-//! stay in the cache, and neither image is copied whole. An operator of two steps takes one strip of levels between them, of a set a
+//! stay in the cache, and neither image is copied whole. An operator of two steps takes some rows of levels between them, of a set a
 //! frame of words of 64 pixels; a frame of levels only where it is small, or where the element has so many rows that strips would
 //! take more. An operator of a single step makes any rows of its result alone.
 //!
 //! `mw_c_forms` tells what a plan makes, `mw_c_layers` makes the strips, and `mw_c_places` those for which memory is refused, place by
-//! place; here frames are cut into strips, and these written. Kernels of rows that stand (`mw_c_lent`) come first where there are some,
-//! for all rows at once, or strip by strip.
+//! place; here frames are cut into strips, and these written. Kernels of rows that stand (`mw_c_lent`) come first where there are some:
+//! what rows they leave are made strip by strip.
 //!
 //! ```text
 //! let f = ArrayImage::Grey8(Grey8 { samples: &bytes, width: 640, height: 480, maxval: 255 });
@@ -20,7 +20,6 @@ mod applying_rows;
 mod by_pixel;
 mod cuts;
 mod gathering;
-mod placing;
 mod room;
 mod samples;
 mod writing;

@@ -3,6 +3,7 @@
 ghost use Rattle.std.specs.Prelude.{◌≡◌, ℕ, ◌+◌, ◌*◌, ◌<◌, ◌≤◌, length, map, IfErr, IfOk, IfSome, false, true};
 ghost use Rattle.mw_model.specs.Pictures.{Picture};
 ghost use Rattle.mw_c_arrays.specs.Sources.{IsArrayImage, picture_in};
+ghost use Rattle.mw_c_lent.specs.Composites.{composite_picture};
 ghost use Rattle.mw_c_lent.specs.InPlace.{AreMiddleRows};
 ghost use Rattle.mw_c_layers.specs.declared.origins.Origin.TheVariants.{Array};
 ghost use Rattle.mw_c_layers.specs.declared.layers.Layer.TheVariants.{By};
@@ -14,9 +15,9 @@ ghost use Rattle.mw_c_strips.specs.Rows.{AreRows, EndAt, rows_from};
 use crate::Sample;
 use crate::by_pixel::level_at;
 use crate::cuts::{ask_once, rows_of, strip_from};
-use crate::placing::put_in_place;
+use mw_c_arrays::ArrayImage;
 use mw_c_layers::{Formula, Layer, Origin, origin_of, strip_of};
-use mw_c_lent::{Middle, middle_of, put_middle};
+use mw_c_lent::{Composite, Middle, middle_of, put_composite, put_middle};
 use mw_model::{NoMemory, Rect};
 use mw_pixel::Image;
 use std::alloc::Global;
@@ -77,28 +78,7 @@ fn put_rows<P: Sample>(image: &Image, strip: Rect, done: u32, out: &mut [P])
     P::put(image, &mut out[start..start + count]);
 }
 
-/// Writes the rows of a strip behind so many rows that are done, if there are kernels for that.
-fn put_standing<P: Sample>(
-    alloc: Global,
-    formula: Formula<'_>,
-    strip: Rect,
-    done: u32,
-    out: &mut [P],
-) -> Result<bool, NoMemory>
-    requires sound { IsFormula formula }
-    requires strip { IsStrip strip (formula_picture formula) }
-    requires room { done * strip.width + strip.height * strip.width ≤ length out.old }
-    ensures made { IfOk result (λ is. is ≡ true → (first : ℕ) → strip.y ≡ first + done → HasImageRows P.level (formula_picture formula.entry) first strip.y out.old → HasImageRows P.level (formula_picture formula.entry) first (strip.y + strip.height) out.new) }
-    ensures left_out { IfOk result (λ is. is ≡ false → out.new ≡ out.old) }
-    ensures kept { IfErr result (λ _. out.new ≡ out.old) }
-{
-    let start = done as usize * strip.width as usize;
-    let count = strip.height as usize * strip.width as usize;
-    let end = start + count;
-    put_in_place(alloc, formula, strip, &mut out[start..end])
-}
-
-/// Writes the rows of a strip behind so many rows that are done: where they are to stand, or by an image of them.
+/// Makes an image of a strip, and writes its rows behind so many rows that are done.
 fn put_made<P: Sample>(
     alloc: Global,
     formula: Formula<'_>,
@@ -113,9 +93,6 @@ fn put_made<P: Sample>(
     ensures made { IfOk result (λ _. (first : ℕ) → strip.y ≡ first + done → HasImageRows P.level (formula_picture formula.entry) first strip.y out.old → HasImageRows P.level (formula_picture formula.entry) first (strip.y + strip.height) out.new) }
     ensures kept { IfErr result (λ _. out.new ≡ out.old) }
 {
-    if put_standing(alloc, formula, strip, done, out)? {
-        return Ok(());
-    }
     let image = strip_of(alloc, formula, strip)?;
     put_rows(&image, strip, done, out);
     Ok(())
@@ -255,6 +232,54 @@ fn put_around<P: Sample>(
     put_any(alloc, formula, first, middle.from, head);
     put_any(alloc, formula, middle.to, end, tail);
     Ok(true)
+}
+
+/// Writes what a composite makes from row `first` on, as many rows as the array has, where kernels make the first of them of rows that
+/// stand: those that they leave are made strip by strip. The formula makes the same image.
+pub(crate) fn write_composite_rows<P: Sample>(
+    alloc: Global,
+    composite: Composite<'_>,
+    f: ArrayImage<'_>,
+    formula: Formula<'_>,
+    first: u32,
+    out: &mut [P],
+) -> Result<bool, NoMemory>
+    requires image { IsArrayImage f }
+    requires sound { IsFormula formula }
+    requires same { formula_picture formula ≡ composite_picture composite (picture_in f) }
+    requires rows { AreRows first (length out.old) (formula_picture formula) }
+    requires stands { P.stands (formula_picture formula).maxval }
+    ensures made { IfOk result (λ done. done ≡ true → map P.level out.new ≡ rows_from first (length out.old) (formula_picture formula.entry)) }
+    ensures left_out { IfOk result (λ done. done ≡ false → out.new ≡ out.old) }
+    ensures kept { IfErr result (λ _. out.new ≡ out.old) }
+{
+    let end = end_of(formula, first, out.len());
+    let next = put_composite(alloc, composite, f, first, end, out)?;
+    if next == first {
+        return Ok(false);
+    }
+    put_rest(alloc, formula, first, next, end, out);
+    Ok(true)
+}
+
+/// Writes all that a composite makes, in the same way.
+pub(crate) fn write_composite<P: Sample>(
+    alloc: Global,
+    composite: Composite<'_>,
+    f: ArrayImage<'_>,
+    formula: Formula<'_>,
+    out: &mut [P],
+) -> Result<bool, NoMemory>
+    requires image { IsArrayImage f }
+    requires sound { IsFormula formula }
+    requires same { formula_picture formula ≡ composite_picture composite (picture_in f) }
+    requires size { length out.old ≡ (formula_picture formula).height * (formula_picture formula).width }
+    requires stands { P.stands (formula_picture formula).maxval }
+    ensures made { IfOk result (λ done. done ≡ true → map P.level out.new ≡ (formula_picture formula.entry).samples) }
+    ensures left_out { IfOk result (λ done. done ≡ false → out.new ≡ out.old) }
+    ensures kept { IfErr result (λ _. out.new ≡ out.old) }
+{
+    write_composite_rows(alloc, composite, f, formula, 0, out)
 }
 
 /// Of the rows from `first` on up to `end` those that a kernel may make of rows that stand in an array.
