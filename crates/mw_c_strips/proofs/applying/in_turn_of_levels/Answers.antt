@@ -10,13 +10,25 @@ use Rattle.mw_c_strips.proofs.applying.in_turn_of_levels.Goals as goal
 pub put_two_steps-requires : goal.put_two_steps-requires
 put_two_steps-requires g c = record { sound = c.requires.sound; room = c.requires.room ∙ fills c.args.f c.requires.sound }
 
+pub write_composite-requires : goal.write_composite-requires
+write_composite-requires g c =
+    let f = picture_in c.args.f in
+    let shape = in_turn_shape c.args.first c.args.second f (rule_picture c.args.first f) c.requires.first c.requires.second refl in
+    record {
+      image = c.requires.sound;
+      sound = c.requires.sound;
+      same = refl;
+      size = c.put_two_steps.auto.out ∙ c.requires.room ∙ fills c.args.f c.requires.sound;
+      stands = subst (λ (m : ℕ). g.P.Sample.stands m) (sym shape.maxval) c.requires.stands;
+    }
+
 pub write_all-requires : goal.write_all-requires
 write_all-requires g c =
     let f = picture_in c.args.f in
     let shape = in_turn_shape c.args.first c.args.second f (rule_picture c.args.first f) c.requires.first c.requires.second refl in
     record {
       sound = c.requires.sound;
-      size = c.put_two_steps.auto.out ∙ c.requires.room ∙ fills c.args.f c.requires.sound;
+      size = c.write_composite.auto.out ∙ c.put_two_steps.auto.out ∙ c.requires.room ∙ fills c.args.f c.requires.sound;
       stands = subst (λ (m : ℕ). g.P.Sample.stands m) (sym shape.maxval) c.requires.stands;
     }
 
@@ -42,7 +54,7 @@ one-requires g c =
     let shape = in_turn_shape c.args.first c.args.second f between c.requires.first c.requires.second is in
     record {
       sound = c.like-between.ensures.sound;
-      room = c.put_two_steps.auto.out ∙ c.requires.room ∙ same_count c.args.f c.like-between.result samples c.requires.sound c.like-between.ensures.sound c.like-between.ensures.image;
+      room = c.write_composite.auto.out ∙ c.put_two_steps.auto.out ∙ c.requires.room ∙ same_count c.args.f c.like-between.result samples c.requires.sound c.like-between.ensures.sound c.like-between.ensures.image;
       stands = subst (λ (m : ℕ). g.P.Sample.stands m) (sym shape.maxval) c.requires.stands;
     }
 

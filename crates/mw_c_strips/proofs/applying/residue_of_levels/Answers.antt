@@ -11,6 +11,15 @@ use Rattle.mw_c_strips.proofs.applying.residue_of_levels.Goals as goal
 pub put_left_over-requires : goal.put_left_over-requires
 put_left_over-requires g c = record { sound = c.requires.sound; room = c.requires.room ∙ fills c.args.f c.requires.sound }
 
+pub write_left_over-requires : goal.write_left_over-requires
+write_left_over-requires g c = record {
+  sound = c.requires.sound;
+  room = c.put_left_over.auto.out ∙ c.requires.room ∙ fills c.args.f c.requires.sound;
+  first = c.requires.first;
+  second = c.requires.second;
+  stands = c.requires.stands;
+}
+
 pub left_over-requires : goal.left_over-requires
 left_over-requires g c =
     let f = picture_in c.args.f in
@@ -18,7 +27,7 @@ left_over-requires g c =
       sound = c.requires.sound;
       layer = c.requires.sound;
       alike = in_turn_shape c.args.first c.args.second f (rule_picture c.args.first f) c.requires.first c.requires.second refl;
-      room = c.put_left_over.auto.out ∙ c.requires.room;
+      room = c.write_left_over.auto.out ∙ c.put_left_over.auto.out ∙ c.requires.room;
       stands = c.requires.stands;
     }
 
@@ -45,7 +54,7 @@ left_over-requires-2 g c =
       sound = c.requires.sound;
       layer = c.like-between.ensures.sound;
       alike = in_turn_shape c.args.first c.args.second f between c.requires.first c.requires.second is;
-      room = c.put_left_over.auto.out ∙ c.requires.room;
+      room = c.write_left_over.auto.out ∙ c.put_left_over.auto.out ∙ c.requires.room;
       stands = c.requires.stands;
     }
 
