@@ -8,6 +8,10 @@ use Rattle.mw_model.specs.declared.offsets.Rect.{Rect}
 use Rattle.mw_model.specs.Pictures.{Picture}
 use Rattle.mw_c_arrays.specs.declared.sources.ArrayImage.{ArrayImage}
 use Rattle.mw_c_arrays.specs.Sources.{IsArrayImage, array_sample_count, picture_in}
+use Rattle.mw_c_forms.specs.declared.forms.Form.{Form}
+use Rattle.mw_c_forms.specs.declared.forms.Form.TheVariants as form
+use Rattle.mw_c_forms.specs.declared.forms.Rest.TheVariants as rest
+use Rattle.mw_c_forms.specs.Forms.{form_picture}
 use Rattle.mw_c_layers.specs.Parts.{IsStrip}
 use Rattle.mw_c_strips.specs.Rows.{AreRows, EndAt, are_rows, fill_rows, rows_from}
 use Rattle.mw_c_strips.proofs.Filtered.{fills}
@@ -70,6 +74,14 @@ all_rows count f sides is =
 -- and these are the image
 pub all_from_first : (count : ℕ) (f : Picture) → length f.samples ≡ f.height * f.width → count ≡ f.height * f.width → rows_from 0 count f ≡ f.samples
 all_from_first count f size is = ap (λ (n : ℕ). take count (drop n f.samples)) (no_product f.width) ∙ take_all count f.samples (omega (arith, size, is))
+
+-- rows of an image are as many of what a form makes of it
+pub form_rows : (s : Form) (f : Picture) (first count : ℕ) → AreRows first count f → AreRows first count (form_picture s f)
+form_rows (form.One r) f first count rows = record { some = rows.some; whole = rows.whole; within = rows.within }
+form_rows (form.InTurn r s) f first count rows = record { some = rows.some; whole = rows.whole; within = rows.within }
+form_rows (form.Residue rest.Taken r s) f first count rows = record { some = rows.some; whole = rows.whole; within = rows.within }
+form_rows (form.Residue rest.Added r s) f first count rows = record { some = rows.some; whole = rows.whole; within = rows.within }
+form_rows (form.Less r s) f first count rows = record { some = rows.some; whole = rows.whole; within = rows.within }
 
 -- ---- room in an array that begins with row `first`
 

@@ -8,8 +8,8 @@ use Rattle.mw_c_layers.specs.Layers.{rule_picture}
 use Rattle.mw_c_strips.proofs.Filtered.{in_turn_shape}
 use Rattle.mw_c_strips.proofs.applying.write_left_over.Goals as goal
 
-pub write_composite-requires-in-Taken : goal.write_composite-requires-in-Taken
-write_composite-requires-in-Taken g c =
+pub write_composite-requires : goal.write_composite-requires
+write_composite-requires g c =
     let f = picture_in c.args.f in
     record {
       image = c.requires.sound;
@@ -45,6 +45,6 @@ returns-in-Added-clause-made g c =
     let level = g.P.Pixel.level in
     let f = picture_in c.args.f in
     let h = rule_picture c.args.second (rule_picture c.args.first f) in
-    let out = c.write_composite.new.out in
-    IfOk-weaker c.write_composite.result (λ done. done ≡ true → map level out ≡ (minus h f).samples) (λ done. done ≡ true → map level out ≡ (rest_picture c.args.rest f h).samples)
-    (λ done made is. made is ∙ ap (λ (x : Rest). (rest_picture x f h).samples) (sym c.in-Added.is)) c.write_composite.ensures.made
+    let out = c.write_composite-in-Added.new.out in
+    IfOk-weaker c.write_composite-in-Added.result (λ done. done ≡ true → map level out ≡ (minus h f).samples) (λ done. done ≡ true → map level out ≡ (rest_picture c.args.rest f h).samples)
+    (λ done made is. made is ∙ ap (λ (x : Rest). (rest_picture x f h).samples) (sym c.in-Added.is)) c.write_composite-in-Added.ensures.made
