@@ -1,17 +1,22 @@
 -- What two extrema under elements of any shape make of an image, in strips.
-use Rattle.std.proofs.Common.{◌≡◌, ℕ, ◌+◌, ◌-◌, ◌*◌, ◌<◌, ◌≤◌, length, refl, ap, sym, arith, ◌∙◌}
+use Rattle.std.proofs.Common.{◌≡◌, ℕ, ◌+◌, ◌-◌, ◌*◌, ◌<◌, ◌≤◌, List, length, refl, ap, sym, arith, ◌∙◌}
 use Rattle.std.proofs.lemmas.Nat.{mul-le}
+use Rattle.std.specs.Arc.{arc_value}
+use Rattle.mw_model.specs.declared.offsets.Offset.{Offset}
 use Rattle.mw_model.specs.declared.offsets.Rect.{Rect}
 use Rattle.mw_model.specs.Pictures.{IsPicture, Picture}
 use Rattle.mw_model.specs.Windows.{View}
 use Rattle.mw_grid.specs.Rectangles.{whole_frame}
 use Rattle.mw_c_lent.specs.declared.composites.Composite.{Composite}
 use Rattle.mw_c_lent.specs.declared.composites.Composite.TheVariants as composite
-use Rattle.mw_c_lent.specs.Composites.{composite_picture}
+use Rattle.mw_c_lent.specs.declared.rules.Rule.{Rule}
+use Rattle.mw_c_lent.specs.declared.rules.Rule.TheVariants as rules
+use Rattle.mw_c_lent.specs.Composites.{composite_picture, first_made}
 use Rattle.mw_c_lent.specs.InPlace.{IsWholeView}
 use Rattle.mw_c_lent.specs.Rows.{IsStrip}
 use Rattle.mw_c_lent.specs.Rules.{rule_picture}
 use Rattle.mw_c_lent.specs.Slides.{AreFrameRows}
+use Rattle.mw_c_lent.specs.Suited.{SuitComposite, SuitRule, SuitTile}
 use Rattle.mw_c_lent.proofs.Lessened.{less_size}
 use Rattle.mw_c_lent.proofs.Rows.{between_count}
 use Rattle.mw_c_lent.proofs.Slid.{whole_sides}
@@ -66,3 +71,30 @@ pub held_room : (held most w m n : ℕ) → held ≡ most → w ≡ m → n ≡ 
 held_room held most w m n rows wide is =
     let all : n ≡ most * m = is ∙ ap (λ (t : ℕ). t * w) rows ∙ ap (λ (t : ℕ). most * t) wide in
     omega (arith, all)
+
+-- ---- what there are kernels for
+
+-- a tile of more rows suits too
+tile_more : (b : List Offset) (r s : Rect) → SuitTile b r → r.width ≡ s.width → r.height ≤ s.height → SuitTile b s
+tile_more b r s is across low = record {
+  few = is.few;
+  near = is.near;
+  wide = omega (arith, is.wide, across);
+  high = omega (arith, is.high, low);
+  many = omega (arith, is.many, mul-le r.width r.height s.width s.height (omega (arith, across)) low);
+}
+
+pub rule_more_rows : (x : Rule) (r s : Rect) → SuitRule x r → r.width ≡ s.width → r.height ≤ s.height → SuitRule x s
+rule_more_rows (rules.Least e) r s is across low = tile_more (arc_value e.now).offsets r s is across low
+rule_more_rows (rules.Greatest e) r s is across low = tile_more (arc_value e.now).offsets r s is across low
+rule_more_rows (rules.LeastBox b) r s is across low = absurd is
+rule_more_rows (rules.GreatestBox b) r s is across low = absurd is
+rule_more_rows (rules.Nth e k) r s is across low = absurd is
+rule_more_rows (rules.AtLeast k) r s is across low = absurd is
+
+-- the rule that is made first suits
+pub first_suits : (c : Composite) (r : Rect) → SuitComposite c r → SuitRule (first_made c) r
+first_suits (composite.InTurn a b) r is = is.0
+first_suits (composite.Taken a b) r is = is.0
+first_suits (composite.Added a b) r is = is.0
+first_suits (composite.Less a b) r is = is.1

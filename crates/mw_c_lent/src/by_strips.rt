@@ -12,6 +12,7 @@ ghost use Rattle.mw_c_lent.specs.Rows.{EndAt, HasImageRows};
 ghost use Rattle.mw_c_lent.specs.Rules.{rule_picture};
 ghost use Rattle.mw_c_lent.specs.Slides.{AreFrameRows};
 ghost use Rattle.mw_c_lent.specs.Standing.{seen_from, seen_to};
+ghost use Rattle.mw_c_lent.specs.Suited.{SuitComposite};
 
 use crate::composed::{Composer, put_composed};
 use crate::composites::{Composite, Composition, made_first, most_rows_beside, reach_beyond};
@@ -57,6 +58,7 @@ fn put_next<P: Lendable>(
     ensures between { length between.new ≡ length between.old }
     ensures stands { IfOk result (λ done. done ≡ true → HasImageRows P.level (rule_picture (first_made composition.entry.composite) (picture_in composition.entry.f)) (seen_from composition.entry.reach next.strip) (seen_to (picture_in composition.entry.f).height composition.entry.reach next.strip) between.new) }
     ensures made { IfOk result (λ done. done ≡ true → map P.level out.new ≡ cells_in next.strip (sample (composite_picture composition.entry.composite (picture_in composition.entry.f)))) }
+    ensures taken { next.standing.from ≡ next.standing.to → (picture_in composition.entry.f).maxval ≤ P.top_level → SuitComposite composition.entry.composite next.strip → IfOk result (λ done. done ≡ true) }
     ensures left_out { IfOk result (λ done. done ≡ false → out.new ≡ out.old) }
     ensures kept { IfErr result (λ _. out.new ≡ out.old) }
 {
@@ -105,6 +107,7 @@ fn put_next_behind<P: Lendable>(
     ensures size { length out.new ≡ length out.old }
     ensures stands { IfOk result (λ done. done ≡ true → HasImageRows P.level (rule_picture (first_made composition.entry.composite) (picture_in composition.entry.f)) (seen_from composition.entry.reach next.strip) (seen_to (picture_in composition.entry.f).height composition.entry.reach next.strip) between.new) }
     ensures made { IfOk result (λ done. done ≡ true → HasImageRows P.level (composite_picture composition.entry.composite (picture_in composition.entry.f)) next.first next.strip.y out.old → HasImageRows P.level (composite_picture composition.entry.composite (picture_in composition.entry.f)) next.first (next.strip.y + next.strip.height) out.new) }
+    ensures taken { next.standing.from ≡ next.standing.to → (picture_in composition.entry.f).maxval ≤ P.top_level → SuitComposite composition.entry.composite next.strip → IfOk result (λ done. done ≡ true) }
     ensures left_out { IfOk result (λ done. done ≡ false → out.new ≡ out.old) }
     ensures kept { IfErr result (λ _. out.new ≡ out.old) }
 {
@@ -118,7 +121,7 @@ fn put_next_behind<P: Lendable>(
 
 /// What is told of a strip to which memory is refused: that it is not made, where rows stand above it.
 fn stop(y: u32, first: u32) -> Result<bool, NoMemory>
-    ensures some { IfOk result (λ done. done ≡ false) }
+    ensures some { IfOk result (λ done. (done ≡ false) × (y ≢ first)) }
     ensures none { IfErr result (λ _. y ≡ first) }
 {
     if y == first {
@@ -151,6 +154,7 @@ fn put_or_stop<P: Lendable>(
     ensures size { length out.new ≡ length out.old }
     ensures stands { IfOk result (λ done. done ≡ true → HasImageRows P.level (rule_picture (first_made composition.entry.composite) (picture_in composition.entry.f)) (seen_from composition.entry.reach next.strip) (seen_to (picture_in composition.entry.f).height composition.entry.reach next.strip) between.new) }
     ensures made { IfOk result (λ done. done ≡ true → HasImageRows P.level (composite_picture composition.entry.composite (picture_in composition.entry.f)) next.first next.strip.y out.old → HasImageRows P.level (composite_picture composition.entry.composite (picture_in composition.entry.f)) next.first (next.strip.y + next.strip.height) out.new) }
+    ensures taken { next.strip.y ≡ next.first → next.standing.from ≡ next.standing.to → (picture_in composition.entry.f).maxval ≤ P.top_level → SuitComposite composition.entry.composite next.strip → IfOk result (λ done. done ≡ true) }
     ensures left_out { IfOk result (λ done. done ≡ false → out.new ≡ out.old) }
     ensures none { IfErr result (λ _. next.strip.y ≡ next.first) }
     ensures kept { IfErr result (λ _. out.new ≡ out.old) }

@@ -13,6 +13,7 @@ ghost use Rattle.mw_c_lent.specs.Rows.{HasImageRows};
 ghost use Rattle.mw_c_lent.specs.Rules.{rule_picture};
 ghost use Rattle.mw_c_lent.specs.Slides.{AreFrameRows};
 ghost use Rattle.mw_c_lent.specs.Standing.{seen_from, seen_to};
+ghost use Rattle.mw_c_lent.specs.Suited.{SuitComposite, SuitRule};
 
 use crate::composites::{Composite, Composition};
 use crate::differences::own_rows;
@@ -65,6 +66,7 @@ fn put_taken_in_turn<P: Lendable>(
     requires room { length out.old ≡ strip.height * strip.width }
     requires stands { HasImageRows P.level (rule_picture turn.sequence.first (picture_in turn.sequence.f)) (seen_from turn.sequence.reach strip) (seen_to (picture_in turn.sequence.f).height turn.sequence.reach strip) between.now }
     ensures made { IfOk result (λ done. done ≡ true → map P.level out.new ≡ cells_in strip (sample (minus (picture_in turn.entry.sequence.f) (rule_picture turn.entry.sequence.second (rule_picture turn.entry.sequence.first (picture_in turn.entry.sequence.f)))))) }
+    ensures taken { SuitRule turn.entry.sequence.second strip → IfOk result (λ done. done ≡ true) }
     ensures left_out { IfOk result (λ done. done ≡ false → out.new ≡ out.old) }
     ensures kept { IfErr result (λ _. out.new ≡ out.old) }
 {
@@ -92,6 +94,7 @@ fn put_added_in_turn<P: Lendable>(
     requires room { length out.old ≡ strip.height * strip.width }
     requires stands { HasImageRows P.level (rule_picture turn.sequence.first (picture_in turn.sequence.f)) (seen_from turn.sequence.reach strip) (seen_to (picture_in turn.sequence.f).height turn.sequence.reach strip) between.now }
     ensures made { IfOk result (λ done. done ≡ true → map P.level out.new ≡ cells_in strip (sample (minus (rule_picture turn.entry.sequence.second (rule_picture turn.entry.sequence.first (picture_in turn.entry.sequence.f))) (picture_in turn.entry.sequence.f)))) }
+    ensures taken { SuitRule turn.entry.sequence.second strip → IfOk result (λ done. done ≡ true) }
     ensures left_out { IfOk result (λ done. done ≡ false → out.new ≡ out.old) }
     ensures kept { IfErr result (λ _. out.new ≡ out.old) }
 {
@@ -119,6 +122,7 @@ fn put_less_of_rules<P: Lendable>(
     requires room { length out.old ≡ strip.height * strip.width }
     requires stands { HasImageRows P.level (rule_picture pair.lower (picture_in pair.f)) strip.y (strip.y + strip.height) between.now }
     ensures made { IfOk result (λ done. done ≡ true → map P.level out.new ≡ cells_in strip (sample (minus (rule_picture pair.entry.upper (picture_in pair.entry.f)) (rule_picture pair.entry.lower (picture_in pair.entry.f))))) }
+    ensures taken { (picture_in pair.entry.f).maxval ≤ P.top_level → SuitRule pair.entry.upper strip → IfOk result (λ done. done ≡ true) }
     ensures left_out { IfOk result (λ done. done ≡ false → out.new ≡ out.old) }
     ensures kept { IfErr result (λ _. out.new ≡ out.old) }
 {
@@ -146,6 +150,7 @@ pub(crate) fn put_composed<P: Lendable>(
     requires room { length out.old ≡ strip.height * strip.width }
     requires stands { HasImageRows P.level (rule_picture (first_made composer.composition.composite) (picture_in composer.composition.f)) (seen_from composer.composition.reach strip) (seen_to (picture_in composer.composition.f).height composer.composition.reach strip) between.now }
     ensures made { IfOk result (λ done. done ≡ true → map P.level out.new ≡ cells_in strip (sample (composite_picture composer.entry.composition.composite (picture_in composer.entry.composition.f)))) }
+    ensures taken { (picture_in composer.entry.composition.f).maxval ≤ P.top_level → SuitComposite composer.entry.composition.composite strip → IfOk result (λ done. done ≡ true) }
     ensures left_out { IfOk result (λ done. done ≡ false → out.new ≡ out.old) }
     ensures kept { IfErr result (λ _. out.new ≡ out.old) }
 {

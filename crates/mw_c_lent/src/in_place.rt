@@ -11,6 +11,7 @@ ghost use Rattle.mw_c_arrays.specs.Sources.{IsArrayImage, picture_in};
 ghost use Rattle.mw_c_lent.specs.InPlace.{AreMiddleRows, IsWholeView};
 ghost use Rattle.mw_c_lent.specs.Rules.{rule_picture};
 ghost use Rattle.mw_c_lent.specs.Rows.{EndAt, IsStrip, rows_from};
+ghost use Rattle.mw_c_lent.specs.Suited.{SuitRule, SuitTile};
 
 use crate::lendable::Lendable;
 use crate::rules::Rule;
@@ -74,6 +75,7 @@ fn put_least_under<P: Lendable>(
 ) -> Result<bool, NoMemory>
     requires room { length out.old ≡ tile.height * tile.width }
     ensures made { IfOk result (λ done. done ≡ true → (f : Picture) → IsWholeView P.level lent.now f → IsStrip tile f → f.maxval ≡ maxval → map P.level out.new ≡ cells_in tile (sample (plane_of (Erode element.now.offsets) (f ∷ []) f.width f.height))) }
+    ensures taken { maxval ≤ P.top_level → SuitTile element.now.offsets tile → IfOk result (λ done. done ≡ true) }
     ensures left_out { IfOk result (λ done. done ≡ false → out.new ≡ out.old) }
     ensures kept { IfErr result (λ _. out.new ≡ out.old) }
 {
@@ -93,6 +95,7 @@ fn put_greatest_under<P: Lendable>(
 ) -> Result<bool, NoMemory>
     requires room { length out.old ≡ tile.height * tile.width }
     ensures made { IfOk result (λ done. done ≡ true → (f : Picture) → IsWholeView P.level lent.now f → IsStrip tile f → map P.level out.new ≡ cells_in tile (sample (plane_of (Dilate element.now.offsets) (f ∷ []) f.width f.height))) }
+    ensures taken { SuitTile element.now.offsets tile → IfOk result (λ done. done ≡ true) }
     ensures left_out { IfOk result (λ done. done ≡ false → out.new ≡ out.old) }
     ensures kept { IfErr result (λ _. out.new ≡ out.old) }
 {
@@ -146,6 +149,7 @@ pub(crate) fn put_tile<P: Lendable>(
 ) -> Result<bool, NoMemory>
     requires room { length out.old ≡ tile.height * tile.width }
     ensures made { IfOk result (λ done. done ≡ true → (f : Picture) → IsWholeView P.level lent.now f → IsStrip tile f → f.maxval ≡ maxval → map P.level out.new ≡ cells_in tile (sample (rule_picture rule.entry f))) }
+    ensures taken { maxval ≤ P.top_level → SuitRule rule.entry tile → IfOk result (λ done. done ≡ true) }
     ensures left_out { IfOk result (λ done. done ≡ false → out.new ≡ out.old) }
     ensures kept { IfErr result (λ _. out.new ≡ out.old) }
 {

@@ -13,6 +13,7 @@ ghost use Rattle.mw_c_lent.specs.Rows.{HasImageRows};
 ghost use Rattle.mw_c_lent.specs.Rules.{rule_picture};
 ghost use Rattle.mw_c_lent.specs.Slides.{AreFrameRows};
 ghost use Rattle.mw_c_lent.specs.Standing.{seen_from, seen_to};
+ghost use Rattle.mw_c_lent.specs.Suited.{SuitRule};
 
 use crate::lendable::Lendable;
 use crate::rules::Rule;
@@ -49,6 +50,7 @@ fn put_under<P: Lendable>(
 ) -> Result<bool, NoMemory>
     requires { length out.old ≡ tile.height * tile.width }
     ensures made { IfOk result (λ done. done ≡ true → IsMadeUnder (rule_value (P.level top) rule.entry) P.level (seen_at lent.now) (rule_offsets rule.entry) tile out.new) }
+    ensures taken { SuitRule rule.entry tile → IfOk result (λ done. done ≡ true) }
     ensures left_out { IfOk result (λ done. done ≡ false → out.new ≡ out.old) }
     ensures kept { IfErr result (λ _. out.new ≡ out.old) }
 {
@@ -88,6 +90,7 @@ pub(crate) fn put_turn<P: Lendable>(
     requires room { length out.old ≡ strip.height * strip.width }
     requires stands { HasImageRows P.level (rule_picture sequence.first (picture_in sequence.f)) (seen_from sequence.reach strip) (seen_to (picture_in sequence.f).height sequence.reach strip) between.now }
     ensures made { IfOk result (λ done. done ≡ true → map P.level out.new ≡ cells_in strip (sample (rule_picture sequence.entry.second (rule_picture sequence.entry.first (picture_in sequence.entry.f))))) }
+    ensures taken { SuitRule sequence.entry.second strip → IfOk result (λ done. done ≡ true) }
     ensures left_out { IfOk result (λ done. done ≡ false → out.new ≡ out.old) }
     ensures kept { IfErr result (λ _. out.new ≡ out.old) }
 {

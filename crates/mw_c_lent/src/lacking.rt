@@ -2,12 +2,14 @@
 //! that the next strip looks at as well are moved to its front, and those alone are made that are lacking.
 
 ghost use Rattle.std.specs.Prelude.{◌≡◌, ◌+◌, ◌-◌, ◌*◌, ◌≤◌, length, min, IfOk, true};
+ghost use Rattle.mw_model.specs.declared.offsets.Rect.{Rect};
 ghost use Rattle.mw_c_arrays.specs.Sources.{IsArrayImage, picture_in};
 ghost use Rattle.mw_c_lent.specs.InPlace.{IsWholeView};
 ghost use Rattle.mw_c_lent.specs.Rows.{HasImageRows};
 ghost use Rattle.mw_c_lent.specs.Rules.{rule_picture};
 ghost use Rattle.mw_c_lent.specs.Slides.{AreFrameRows};
 ghost use Rattle.mw_c_lent.specs.Standing.{seen_from, seen_to};
+ghost use Rattle.mw_c_lent.specs.Suited.{SuitRule};
 
 use crate::in_place::put_tile;
 use crate::lendable::Lendable;
@@ -59,6 +61,7 @@ fn make_lacking<P: Lendable>(
     requires stands { HasImageRows P.level (rule_picture source.rule (picture_in source.f)) standing.from standing.to between.old }
     ensures between { length between.new ≡ length between.old }
     ensures made { IfOk result (λ done. done ≡ true → HasImageRows P.level (rule_picture source.entry.rule (picture_in source.entry.f)) standing.from end between.new) }
+    ensures taken { standing.from ≡ standing.to → (picture_in source.entry.f).maxval ≤ P.top_level → (r : Rect) → r.width ≡ (picture_in source.entry.f).width → r.height ≤ end - standing.from → SuitRule source.entry.rule r → IfOk result (λ done. done ≡ true) }
 {
     if standing.to >= end {
         return Ok(true);
@@ -97,6 +100,7 @@ pub(crate) fn let_stand<P: Lendable>(
     requires stands { HasImageRows P.level (rule_picture source.rule (picture_in source.f)) standing.from standing.to between.old }
     ensures between { length between.new ≡ length between.old }
     ensures made { IfOk result (λ done. done ≡ true → HasImageRows P.level (rule_picture source.entry.rule (picture_in source.entry.f)) (seen_from source.entry.reach strip) (seen_to (picture_in source.entry.f).height source.entry.reach strip) between.new) }
+    ensures taken { standing.from ≡ standing.to → (picture_in source.entry.f).maxval ≤ P.top_level → SuitRule source.entry.rule strip → IfOk result (λ done. done ≡ true) }
 {
     let (width, height) = (source.f.width(), source.f.height());
     let place = grown(strip, source.reach, width, height);

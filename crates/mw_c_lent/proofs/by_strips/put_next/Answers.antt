@@ -6,6 +6,8 @@ use Rattle.mw_c_lent.specs.Rows.{HasImageRows}
 use Rattle.mw_c_lent.specs.Rules.{rule_picture}
 use Rattle.mw_c_lent.specs.Composites.{first_made}
 use Rattle.mw_c_lent.specs.Standing.{seen_from, seen_to}
+use Rattle.mw_c_lent.specs.Suited.{SuitRule}
+use Rattle.mw_c_lent.proofs.InStrips.{first_suits}
 use Rattle.mw_c_lent.proofs.by_strips.put_next.Goals as goal
 
 pub let_stand-requires-clause-stands : goal.let_stand-requires-clause-stands
@@ -32,3 +34,6 @@ returns-clause-stands g c =
     IfOk-weaker c.put_composed.result (λ done. done ≡ false → c.put_composed.new.out ≡ c.args.out.now)
     (λ done. done ≡ true → HasImageRows level (rule_picture (first_made k.composite) f) (seen_from k.reach r) (seen_to f.height k.reach r) between)
     (λ done kept yes. stands) c.put_composed.ensures.left_out
+
+pub returns-clause-taken : goal.returns-clause-taken
+returns-clause-taken g c = λ none fits suit. c.put_composed.ensures.taken fits suit

@@ -1,4 +1,4 @@
-use Rattle.std.proofs.Common.{◌≡◌, true, List, [], ◌∷◌, map, refl, subst}
+use Rattle.std.proofs.Common.{◌≡◌, true, List, [], ◌∷◌, map, refl, sym, subst}
 use Rattle.std.specs.Prelude.{IfOk}
 use Rattle.mw_model.specs.declared.offsets.Offset.{Offset}
 use Rattle.std.proofs.lemmas.Result.{IfOk-weaker}
@@ -13,6 +13,7 @@ use Rattle.mw_c_lent.specs.InPlace.{IsWholeView}
 use Rattle.mw_c_lent.specs.Rows.{IsStrip}
 use Rattle.mw_c_lent.proofs.Steps.{greatest_there}
 use Rattle.mw_c_lent.proofs.UnderBoxes.{made_whole}
+use Rattle.mw_c_lent.specs.Suited.{SuitTile}
 use Rattle.mw_c_lent.proofs.in_place.put_greatest_under.Goals as goal
 
 pub returns-clause-made : goal.returns-clause-made
@@ -26,3 +27,6 @@ returns-clause-made g c =
     (λ done. done ≡ true → (f : Picture) → IsWholeView level w f → IsStrip r f → map level out ≡ cells_in r (sample (plane_of (Dilate e) (f ∷ []) f.width f.height)))
     (λ done made is f whole strip. made_whole greatest level w f (plane_of (Dilate e) (f ∷ []) f.width f.height) e r out whole strip (λ x y across down. greatest_there e e f x y (greatest (under f e x y)) across down refl refl) (made is))
     (subst (λ (t : List Offset). IfOk c.greatest_under.result (λ done. done ≡ true → IsMadeUnder greatest level (seen_at w) t r out)) c.offsets.ensures.value c.greatest_under.ensures.made)
+
+pub returns-clause-taken : goal.returns-clause-taken
+returns-clause-taken g c = λ suit. c.greatest_under.ensures.taken (subst (λ (t : List Offset). SuitTile t c.args.tile) (sym c.offsets.ensures.value) suit)

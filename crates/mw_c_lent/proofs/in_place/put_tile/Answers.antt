@@ -14,6 +14,7 @@ use Rattle.mw_c_lent.specs.InPlace.{IsWholeView}
 use Rattle.mw_c_lent.specs.Rules.{rule_picture}
 use Rattle.mw_c_lent.specs.Rows.{IsStrip}
 use Rattle.mw_c_lent.proofs.Views.{ranks_whole}
+use Rattle.mw_c_lent.specs.Suited.{SuitRule, SuitTile}
 use Rattle.mw_c_lent.proofs.in_place.put_tile.Goals as goal
 
 pub returns-in-Nth-clause-made : goal.returns-in-Nth-clause-made
@@ -82,3 +83,23 @@ returns-in-GreatestBox-clause-made g c =
     (λ done. done ≡ true → (f : Picture) → IsWholeView level w f → IsStrip r f → f.maxval ≡ c.args.maxval → map level out ≡ cells_in r (sample (rule_picture c.args.rule f)))
     (λ done made is f whole strip top. made is f whole strip ∙ ap (λ (x : Rule). cells_in r (sample (rule_picture x f))) (sym c.in-GreatestBox.is))
     c.put_greatest.ensures.made
+
+pub returns-in-Least-clause-taken : goal.returns-in-Least-clause-taken
+returns-in-Least-clause-taken g c = λ fits suit.
+    c.put_least_under.ensures.taken fits (subst (λ (x : Element). SuitTile x.offsets c.args.tile) (sym c.deref-in-Least.ensures) (subst (λ (x : Rule). SuitRule x c.args.tile) c.in-Least.is suit))
+
+pub returns-in-Greatest-clause-taken : goal.returns-in-Greatest-clause-taken
+returns-in-Greatest-clause-taken g c = λ fits suit.
+    c.put_greatest_under.ensures.taken (subst (λ (x : Element). SuitTile x.offsets c.args.tile) (sym c.deref-in-Greatest.ensures) (subst (λ (x : Rule). SuitRule x c.args.tile) c.in-Greatest.is suit))
+
+pub returns-in-Nth-clause-taken : goal.returns-in-Nth-clause-taken
+returns-in-Nth-clause-taken g c = λ fits suit. absurd (subst (λ (x : Rule). SuitRule x c.args.tile) c.in-Nth.is suit)
+
+pub returns-in-LeastBox-clause-taken : goal.returns-in-LeastBox-clause-taken
+returns-in-LeastBox-clause-taken g c = λ fits suit. absurd (subst (λ (x : Rule). SuitRule x c.args.tile) c.in-LeastBox.is suit)
+
+pub returns-in-GreatestBox-clause-taken : goal.returns-in-GreatestBox-clause-taken
+returns-in-GreatestBox-clause-taken g c = λ fits suit. absurd (subst (λ (x : Rule). SuitRule x c.args.tile) c.in-GreatestBox.is suit)
+
+pub returns-in-AtLeast-clause-taken : goal.returns-in-AtLeast-clause-taken
+returns-in-AtLeast-clause-taken g c = λ fits suit. absurd (subst (λ (x : Rule). SuitRule x c.args.tile) c.in-AtLeast.is suit)

@@ -64,3 +64,10 @@ returns-clause-made g c =
     (λ done. done ≡ true → HasImageRows level made (seen_from reach c.args.strip) (seen_to f.height reach c.args.strip) between)
     (λ done is yes. rows_at level made place.y (place.y + place.height) (seen_from reach c.args.strip) (seen_to f.height reach c.args.strip) between rows.from rows.to (is yes))
     c.make_lacking.ensures.made
+
+pub returns-clause-taken : goal.returns-clause-taken
+returns-clause-taken g c = λ none fits suit.
+    let f = picture_in c.args.source.f in
+    let reach = c.args.source.reach in
+    let rows = grown_in f.width f.height c.width-width.result c.height-height.result reach c.args.strip c.grown-place.result c.width-width.ensures c.height-height.ensures c.requires.strip c.grown-place.ensures.value in
+    c.make_lacking.ensures.taken (omega (arith, rows.from, none, c.requires.behind, c.requires.joined)) fits c.args.strip c.requires.strip.across (omega (arith, rows.from, rows.to, c.requires.strip.low)) suit

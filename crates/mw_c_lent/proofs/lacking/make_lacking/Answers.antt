@@ -11,6 +11,7 @@ use Rattle.mw_c_lent.specs.Rows.{HasImageRows, IsStrip}
 use Rattle.mw_c_lent.specs.Rules.{rule_picture}
 use Rattle.mw_c_lent.proofs.Steps.{rule_is_picture, strip_above}
 use Rattle.mw_c_lent.proofs.Stood.{fewer_rows, rows_behind, two_parts}
+use Rattle.mw_c_lent.proofs.InStrips.{rule_more_rows}
 use Rattle.mw_c_lent.proofs.lacking.make_lacking.Goals as goal
 
 pub slice_bounds-rows-end : goal.slice_bounds-rows-end
@@ -52,3 +53,9 @@ returns-clause-made g c =
     (omega (arith, held, two_parts s.from from end m behind (omega (arith, before)))) (is yes f c.requires.view strip (sym c.maxval.ensures)) (ap (λ (n : ℕ). put_mid a n old part) same)
     (fewer_rows level (rule_picture rule f) s.from s.to from old before c.requires.stands))
     c.put_tile.ensures.made
+
+pub returns-clause-taken : goal.returns-clause-taken
+returns-clause-taken g c = λ none fits r across low suit.
+    let from = c.made_from-from.result in
+    let tile : Rect = record { x = 0; y = from; width = c.width-width.result; height = c.args.end - from } in
+    c.put_tile.ensures.taken (omega (arith, fits, c.maxval.ensures)) (rule_more_rows c.args.source.rule r tile suit (across ∙ sym c.width-width.ensures) (omega (arith, low, none, c.made_from-from.ensures.before)))
