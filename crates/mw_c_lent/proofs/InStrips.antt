@@ -1,6 +1,9 @@
 -- What two extrema under elements of any shape make of an image, in strips.
-use Rattle.std.proofs.Common.{◌≡◌, ℕ, ◌+◌, ◌-◌, ◌*◌, ◌<◌, ◌≤◌, List, length, refl, ap, sym, arith, ◌∙◌}
+use Rattle.std.proofs.Common.{◌≡◌, ℕ, ◌+◌, ◌-◌, ◌*◌, ◌/◌, ◌%◌, ◌<◌, ◌≤◌, List, length, Option, None, Some, inl, inr, refl, ap, sym, arith, ◌∙◌}
+use Rattle.std.proofs.lemmas.Bool.{cases_lt}
 use Rattle.std.proofs.lemmas.Nat.{mul-le}
+use Rattle.std.proofs.Math.Nat.{div-add-mod, mod-lt}
+use Rattle.std.specs.Prelude.{IfNone}
 use Rattle.std.specs.Arc.{arc_value}
 use Rattle.mw_model.specs.declared.offsets.Offset.{Offset}
 use Rattle.mw_model.specs.declared.offsets.Rect.{Rect}
@@ -13,10 +16,11 @@ use Rattle.mw_c_lent.specs.declared.rules.Rule.{Rule}
 use Rattle.mw_c_lent.specs.declared.rules.Rule.TheVariants as rules
 use Rattle.mw_c_lent.specs.Composites.{composite_picture, first_made}
 use Rattle.mw_c_lent.specs.InPlace.{IsWholeView}
+use Rattle.mw_c_lent.specs.InTurn.{IsElementRule}
 use Rattle.mw_c_lent.specs.Rows.{IsStrip}
 use Rattle.mw_c_lent.specs.Rules.{rule_picture}
 use Rattle.mw_c_lent.specs.Slides.{AreFrameRows}
-use Rattle.mw_c_lent.specs.Suited.{SuitComposite, SuitRule, SuitTile}
+use Rattle.mw_c_lent.specs.Suited.{IsFirstHeight, IsNearRule, SuitComposite, SuitRule, SuitTile}
 use Rattle.mw_c_lent.proofs.Lessened.{less_size}
 use Rattle.mw_c_lent.proofs.Rows.{between_count}
 use Rattle.mw_c_lent.proofs.Slid.{whole_sides}
@@ -98,3 +102,47 @@ first_suits (composite.InTurn a b) r is = is.0
 first_suits (composite.Taken a b) r is = is.0
 first_suits (composite.Added a b) r is = is.0
 first_suits (composite.Less a b) r is = is.1
+
+-- a first strip is no small tile
+pub first_size : (w rows count high : ℕ) → 128 ≤ w → w ≤ 8192 → 64 ≤ count → (rows < count → (16 ≤ rows) × (131072 < (rows + 1) * (2 * w))) → IsFirstHeight rows count high → (8 ≤ high) × (8192 ≤ w * high)
+first_size w rows count high wide near some many is =
+    elim (cases_lt rows count) [
+      | inl less ↦
+          let half = is.half less in
+          let both = many less in
+          let high-is : 8 ≤ high = omega (arith, half, both.0) in
+          let all : (rows + 1) * (2 * w) ≤ (2 * high + 1) * (2 * w) = mul-le (rows + 1) (2 * w) (2 * high + 1) (2 * w) (omega (arith, half)) (omega arith) in
+          (high-is, omega (arith, all, both.1, near))
+      | inr all ↦
+          let same = is.whole all in
+          (omega (arith, same, some), omega (arith, mul-le 128 64 w high wide (omega (arith, same, some))))
+    ]
+
+-- a rule suits tiles that are not small
+pub near_suits : (x : Rule) (r : Rect) → IsNearRule x → 128 ≤ r.width → 8 ≤ r.height → 8192 ≤ r.width * r.height → SuitRule x r
+near_suits (rules.Least e) r is wide high many = record { few = is.0; near = is.1; wide = omega (arith, wide); high = high; many = many }
+near_suits (rules.Greatest e) r is wide high many = record { few = is.0; near = is.1; wide = omega (arith, wide); high = high; many = many }
+near_suits (rules.LeastBox b) r is wide high many = absurd is
+near_suits (rules.GreatestBox b) r is wide high many = absurd is
+near_suits (rules.Nth e k) r is wide high many = absurd is
+near_suits (rules.AtLeast k) r is wide high many = absurd is
+
+pub near_element : (x : Rule) → IsNearRule x → IsElementRule x
+near_element (rules.Least e) is = tt
+near_element (rules.Greatest e) is = tt
+near_element (rules.LeastBox b) is = absurd is
+near_element (rules.GreatestBox b) is = absurd is
+near_element (rules.Nth e k) is = absurd is
+near_element (rules.AtLeast k) is = absurd is
+
+-- so many bytes are less than those of as many rows as fit, and one
+pub bytes_within : (bytes row rows w : ℕ) → 131072 ≤ bytes → 1 ≤ row → row ≤ 2 * w → bytes / row ≤ rows → 131072 < (rows + 1) * (2 * w)
+bytes_within bytes row rows w least some narrow few =
+    let rest : bytes % row < row = mod-lt bytes {m = row} (omega (arith, some)) in
+    let parts : row * (bytes / row) + bytes % row ≡ bytes = div-add-mod bytes row in
+    let all : (bytes / row + 1) * row ≤ (rows + 1) * (2 * w) = mul-le (bytes / row + 1) row (rows + 1) (2 * w) (omega (arith, few)) narrow in
+    omega (arith, least, rest, parts, all)
+
+pub none_then : {X : Type 0} (r : Option X) {P Q : Type 0} → IfNone r P → (P → Q) → IfNone r Q
+none_then None h f = f h
+none_then (Some x) h f = tt

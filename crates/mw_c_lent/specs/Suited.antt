@@ -1,13 +1,18 @@
 -- Offsets and tiles for which there is a kernel for sure (own).
-use Rattle.std.specs.Prelude.{ℕ, ◌*◌, ◌≤◌, List, length}
+use Rattle.std.specs.Prelude.{◌≡◌, ℕ, ◌+◌, ◌-◌, ◌*◌, ◌<◌, ◌≤◌, List, length}
 use Rattle.std.specs.List.{AllByRecursion}
 use Rattle.mw_model.specs.declared.offsets.Offset.{Offset}
 use Rattle.mw_model.specs.declared.offsets.Rect.{Rect}
 use Rattle.std.specs.Arc.{arc_value}
+use Rattle.mw_model.specs.Elements.{reach_of}
+use Rattle.mw_c_arrays.specs.declared.sources.ArrayImage.{ArrayImage}
+use Rattle.mw_c_arrays.specs.Sources.{picture_in}
 use Rattle.mw_c_lent.specs.declared.composites.Composite.{Composite}
 use Rattle.mw_c_lent.specs.declared.rules.Rule.{Rule}
 use Rattle.mw_c_lent.specs.declared.rules.Rule.TheVariants as rule
 use Rattle.mw_c_lent.specs.Composites.{first_rule, last_rule}
+use Rattle.mw_c_lent.specs.InTurn.{rule_offsets}
+use Rattle.mw_c_lent.specs.Levels.{HasLevelsUpTo}
 use Rattle.mw_offset_lent.specs.Offsets.{LeadsWithin}
 
 -- few offsets that lead no further than 64 columns and rows, and a tile of 72 columns, 8 rows and 8,192 samples at least
@@ -27,3 +32,32 @@ SuitRule x r = ⊥
 -- both rules are
 abbrev pub SuitComposite : Composite → Rect → Type 0
 SuitComposite c r = SuitRule (first_rule c) r × SuitRule (last_rule c) r
+
+-- ---- what is made by strips
+
+-- the rule is an extremum under few offsets that lead no further than 64 columns and rows
+abbrev pub IsNearRule : Rule → Type 0
+IsNearRule (rule.Least e) = (length (arc_value e.now).offsets ≤ 64) × AllByRecursion (LeadsWithin 64 64) (arc_value e.now).offsets
+IsNearRule (rule.Greatest e) = (length (arc_value e.now).offsets ≤ 64) × AllByRecursion (LeadsWithin 64 64) (arc_value e.now).offsets
+IsNearRule x = ⊥
+
+-- how many rows it looks at beside one
+abbrev pub rows_beside : Rule → ℕ
+rows_beside r = (reach_of (rule_offsets r)).up + (reach_of (rule_offsets r)).down
+
+-- a first strip of so many rows at most, where so many are made: all of them, or half of that at least
+pub record IsFirstHeight (rows count high : ℕ) : Type 0 where
+  pub whole : count ≤ rows → high ≡ count
+  pub half : rows < count → rows ≤ 2 * high
+
+-- both rules are such, the image has samples with this top, 128 columns at least, and rows so short that five times as many as the
+-- last looks at beside one, and 16 more, have at most so many bytes; and 64 rows at least are made
+pub record IsMadeByStrips (top : ℕ) (c : Composite) (f : ArrayImage) (first end : ℕ) : Type 0 where
+  pub levels : HasLevelsUpTo top f
+  pub maxval : (picture_in f).maxval ≤ top
+  pub first_is : IsNearRule (first_rule c)
+  pub last_is : IsNearRule (last_rule c)
+  pub low : rows_beside (last_rule c) ≤ 255
+  pub wide : 128 ≤ (picture_in f).width
+  pub few : (5 * rows_beside (last_rule c) + 16) * (2 * (picture_in f).width) ≤ 1703936
+  pub some : 64 ≤ end - first

@@ -2,17 +2,18 @@
 //! what is written between two steps is in the cache when it is read, and so high, where memory has room, that few rows are laid out
 //! twice by a kernel. A kernel may refuse any strip, or want memory for it: what is written then stands.
 
-ghost use Rattle.std.specs.Prelude.{◌≡◌, ◌+◌, ◌-◌, ◌*◌, ◌<◌, ◌≤◌, ◌≢◌, length, map, min, IfErr, IfOk, IfSome, false, true};
+ghost use Rattle.std.specs.Prelude.{◌≡◌, ◌+◌, ◌-◌, ◌*◌, ◌<◌, ◌≤◌, ◌≢◌, length, map, min, IfErr, IfNone, IfOk, IfSome, false, true};
+ghost use Rattle.mw_model.specs.declared.offsets.Rect.{Rect};
 ghost use Rattle.mw_model.specs.Pictures.{sample};
 ghost use Rattle.mw_model.specs.Tasks.{cells_in};
 ghost use Rattle.mw_c_arrays.specs.Sources.{IsArrayImage, picture_in};
-ghost use Rattle.mw_c_lent.specs.Composites.{IsComposition, composite_picture, first_made};
+ghost use Rattle.mw_c_lent.specs.Composites.{AreElementRules, IsComposition, composite_picture, first_made, last_rule};
 ghost use Rattle.mw_c_lent.specs.InPlace.{IsWholeView};
 ghost use Rattle.mw_c_lent.specs.Rows.{EndAt, HasImageRows};
 ghost use Rattle.mw_c_lent.specs.Rules.{rule_picture};
 ghost use Rattle.mw_c_lent.specs.Slides.{AreFrameRows};
 ghost use Rattle.mw_c_lent.specs.Standing.{seen_from, seen_to};
-ghost use Rattle.mw_c_lent.specs.Suited.{SuitComposite};
+ghost use Rattle.mw_c_lent.specs.Suited.{IsFirstHeight, IsMadeByStrips, SuitComposite, rows_beside};
 
 use crate::composed::{Composer, put_composed};
 use crate::composites::{Composite, Composition, made_first, most_rows_beside, reach_beyond};
@@ -181,7 +182,7 @@ fn strip_height(rows: u32, left: u32) -> u32
     ensures some { 1 ≤ result }
     ensures most { result ≤ rows }
     ensures within { result ≤ left }
-    ensures half { min rows left ≤ 2 * result }
+    ensures first { IsFirstHeight rows left result }
 {
     if left <= rows {
         return left;
@@ -225,6 +226,7 @@ fn put_strips<P: Lendable>(
     ensures within { IfOk result (λ to. to ≤ stretch.end) }
     ensures made { IfOk result (λ to. HasImageRows P.level (composite_picture composition.entry.composite (picture_in composition.entry.f)) stretch.first to out.new) }
     ensures none { IfOk result (λ to. to ≡ stretch.first → out.new ≡ out.old) }
+    ensures taken { (picture_in composition.entry.f).maxval ≤ P.top_level → ((r : Rect) → r.width ≡ (picture_in composition.entry.f).width → IsFirstHeight stretch.rows (stretch.end - stretch.first) r.height → SuitComposite composition.entry.composite r) → IfOk result (λ to. stretch.first < to) }
     ensures kept { IfErr result (λ _. out.new ≡ out.old) }
 {
     let Stretch {
@@ -275,7 +277,8 @@ const TIMES: u32 = 8;
 
 /// About how many bytes the rows of a strip have.
 fn bytes_of_strip(composite: Composite<'_>) -> u32
-    ensures { result ≤ 262144 }
+    ensures most { result ≤ 262144 }
+    ensures least { 131072 ≤ result }
 {
     match composite {
         Composite::InTurn(_, _) => STRIP,
@@ -291,6 +294,8 @@ fn composition_of<'a>(composite: Composite<'a>, f: ArrayImage<'a>) -> Option<Com
     ensures sound { IfSome result IsComposition }
     ensures composite { IfSome result (λ c. c.composite ≡ composite.entry) }
     ensures image { IfSome result (λ c. c.f ≡ f.entry) }
+    ensures low { IfSome result (λ c. c.reach.up + c.reach.down ≤ rows_beside (last_rule composite.entry)) }
+    ensures none { IfNone result (AreElementRules composite.entry → rows_beside (last_rule composite.entry) ≤ 255 → 32 ≤ (picture_in f.entry).width → ⊥) }
 {
     let Some(reach) = reach_beyond(composite) else {
         return None;
@@ -314,6 +319,8 @@ fn rows_of(composition: Composition<'_>, count: u32) -> Option<u32>
     requires some { 1 ≤ count }
     ensures some { IfSome result (λ rows. 1 ≤ rows) }
     ensures low { IfSome result (λ rows. rows ≤ count) }
+    ensures many { IfSome result (λ rows. rows < count → (16 ≤ rows) × (131072 < (rows + 1) * (2 * (picture_in composition.entry.f).width))) }
+    ensures none { IfNone result ((5 * (composition.entry.reach.up + composition.entry.reach.down) + 16) * (2 * (picture_in composition.entry.f).width) ≤ 1703936 → ⊥) }
 {
     let Composition {
         composite,
@@ -336,8 +343,10 @@ const COLUMNS: u32 = 128;
 
 const ROWS: u32 = 64;
 
-/// Whether it is sooner to fill planes. Any answer is right.
-fn is_small(composite: Composite<'_>, width: u32, rows: u32) -> bool {
+/// Whether it is sooner to fill planes.
+fn is_small(composite: Composite<'_>, width: u32, rows: u32) -> bool
+    ensures { 128 ≤ width → 64 ≤ rows → result ≡ false }
+{
     match composite {
         Composite::InTurn(_, _) => width < COLUMNS || rows < ROWS,
         Composite::Taken(_, _) => width < COLUMNS || rows < ROWS,
@@ -363,6 +372,7 @@ pub fn put_composite<P: Lendable>(
     ensures within { IfOk result (λ to. to ≤ end) }
     ensures made { IfOk result (λ to. HasImageRows P.level (composite_picture composite.entry (picture_in f.entry)) first to out.new) }
     ensures none { IfOk result (λ to. to ≡ first → out.new ≡ out.old) }
+    ensures taken { IsMadeByStrips P.top_level composite.entry f.entry first end → IfOk result (λ to. first < to) }
     ensures kept { IfErr result (λ _. out.new ≡ out.old) }
 {
     let Some(samples) = P::grey(f) else {

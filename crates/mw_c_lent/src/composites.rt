@@ -1,8 +1,9 @@
 //! What is made of an image by two extrema under elements of any shape: openings and closings, what these take and add, and
 //! differences of two extrema.
 
-ghost use Rattle.std.specs.Prelude.{◌≡◌, IfSome};
+ghost use Rattle.std.specs.Prelude.{◌≡◌, ◌+◌, ◌≤◌, IfNone, IfSome};
 ghost use Rattle.mw_c_lent.specs.Composites.{AreElementRules, LooksWithin, first_made, last_rule, first_rule};
+ghost use Rattle.mw_c_lent.specs.Suited.{rows_beside};
 
 use crate::in_turn::reach_of;
 use crate::rules::Rule;
@@ -59,6 +60,8 @@ pub(crate) fn made_first<'a>(composite: Composite<'a>) -> Rule<'a>
 pub(crate) fn reach_beyond(composite: Composite<'_>) -> Option<Reach>
     ensures rules { IfSome result (λ reach. AreElementRules composite.entry) }
     ensures reach { IfSome result (λ reach. LooksWithin reach composite.entry) }
+    ensures low { IfSome result (λ reach. reach.up + reach.down ≤ rows_beside (last_rule composite.entry)) }
+    ensures none { IfNone result (AreElementRules composite.entry → ⊥) }
 {
     let (first, last) = rules_of(composite);
     let Some(_own) = reach_of(first) else {

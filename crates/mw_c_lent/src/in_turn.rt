@@ -1,7 +1,7 @@
 //! A strip of what a second extremum makes of what a first makes of an image, both under elements of any shape. The rows of the first
 //! that the second looks at stand in a buffer, where they are in the cache when it reads them.
 
-ghost use Rattle.std.specs.Prelude.{◌≡◌, ◌+◌, ◌*◌, ◌≤◌, length, map, min, IfErr, IfOk, IfSome, false, true};
+ghost use Rattle.std.specs.Prelude.{◌≡◌, ◌+◌, ◌*◌, ◌≤◌, length, map, min, IfErr, IfNone, IfOk, IfSome, false, true};
 ghost use Rattle.mw_model.specs.Pictures.{sample};
 ghost use Rattle.mw_model.specs.Rectangles.{WithinReach};
 ghost use Rattle.mw_model.specs.Tasks.{cells_in};
@@ -13,7 +13,7 @@ ghost use Rattle.mw_c_lent.specs.Rows.{HasImageRows};
 ghost use Rattle.mw_c_lent.specs.Rules.{rule_picture};
 ghost use Rattle.mw_c_lent.specs.Slides.{AreFrameRows};
 ghost use Rattle.mw_c_lent.specs.Standing.{seen_from, seen_to};
-ghost use Rattle.mw_c_lent.specs.Suited.{SuitRule};
+ghost use Rattle.mw_c_lent.specs.Suited.{SuitRule, rows_beside};
 
 use crate::lendable::Lendable;
 use crate::rules::Rule;
@@ -28,6 +28,8 @@ use mw_rank_lent::Lent;
 pub(crate) fn reach_of(rule: Rule<'_>) -> Option<Reach>
     ensures under { IfSome result (λ reach. IsElementRule rule.entry) }
     ensures reach { IfSome result (λ reach. WithinReach reach (rule_offsets rule.entry)) }
+    ensures low { IfSome result (λ reach. reach.up + reach.down ≡ rows_beside rule.entry) }
+    ensures none { IfNone result (IsElementRule rule.entry → ⊥) }
 {
     match rule {
         Rule::Least(element) => Some(element.reach()),

@@ -3,7 +3,7 @@
 //! in the cache when it is read. Where memory has room, they have at least four times as many rows as a second step looks at beyond
 //! them, and as many as are made together under a tall rectangle. All memory is asked for before anything is written.
 
-ghost use Rattle.std.specs.Prelude.{◌≡◌, ◌+◌, ◌*◌, ◌≤◌, max, min, length, map, IfErr, IfNone, IfOk, IfSome, false, true};
+ghost use Rattle.std.specs.Prelude.{◌≡◌, ◌+◌, ◌*◌, ◌/◌, ◌≤◌, max, min, length, map, IfErr, IfNone, IfOk, IfSome, false, true};
 ghost use Rattle.mw_model.specs.Pictures.{Picture, sample};
 ghost use Rattle.mw_model.specs.Tasks.{cells_in};
 ghost use Rattle.mw_grid.specs.Rectangles.{whole_frame};
@@ -221,6 +221,7 @@ pub(crate) fn rows_of_strip(
     requires high { 1 ≤ height }
     ensures some { IfSome result (λ rows. 1 ≤ rows) }
     ensures low { IfSome result (λ rows. rows ≤ height) }
+    ensures many { IfSome result (λ rows. min height (max 16 (bytes / row_size)) ≤ rows) }
     ensures fits { IfNone result ((5 * beyond + 16) * row_size ≤ 1703936 → ⊥) }
 {
     let most = MEMORY / row_size;

@@ -17,6 +17,7 @@ invariant-strips g l = record {
   stands : HasImageRows g.P.Pixel.level (rule_picture (first_made l.composition.composite) (picture_in l.composition.f)) l.standing.from l.standing.to l.between;
   made : HasImageRows g.P.Pixel.level (composite_picture l.composition.composite (picture_in l.composition.f)) l.first l.done l.out;
   none : l.done ≡ l.first → l.out ≡ l.initial.out;
+  fresh : l.done ≡ l.first → l.standing.from ≡ l.standing.to;
 }
 
 abbrev pub decreases-strips : goal.decreases-strips
