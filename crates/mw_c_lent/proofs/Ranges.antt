@@ -1,5 +1,5 @@
 -- Gradients: the greatest less the least, of levels and of whole images.
-use Rattle.std.proofs.Common.{◌≡◌, ℕ, ℤ, true, ◌&&◌, ◌+◌, ◌-◌, ◌*◌, ◌<◌, ◌≤◌, List, map, length, fold, get_or, take, drop, min, max, refl, ap, sym, arith, ◌∙◌}
+use Rattle.std.proofs.Common.{◌≡◌, ℕ, ℤ, true, ◌&&◌, ◌+◌, ◌-◌, ◌*◌, ◌<◌, List, map, length, fold, take, drop, min, max, refl, ap, sym, arith, ◌∙◌}
 use Rattle.std.specs.Ordering.{int_eq}
 use Rattle.std.proofs.lemmas.Bool.Decides.{Decides-and, Decides-int_eq}
 use Rattle.std.proofs.lemmas.List.{map-id, take_all}

@@ -11,10 +11,8 @@ use Rattle.mw_c_lent.specs.InPlace.{IsWholeView}
 use Rattle.mw_c_lent.specs.Rows.{EndAt, HasImageRows}
 use Rattle.mw_c_lent.proofs.InStrips.{first_size, held_room, near_element, near_suits}
 use Rattle.mw_c_lent.proofs.Views.{whole_is}
-use Rattle.mw_c_lent.specs.declared.composites.Composition.{Composition}
 use Rattle.mw_c_lent.specs.Composites.{first_rule, last_rule}
-use Rattle.mw_c_lent.specs.Suited.{IsFirstHeight, SuitComposite, rows_beside}
-use Rattle.mw_model.specs.declared.offsets.Rect.{Rect}
+use Rattle.mw_c_lent.specs.Suited.{SuitComposite, rows_beside}
 use Rattle.mw_c_lent.proofs.by_strips.put_composite.Goals as goal
 
 pub overflow_mul-held : goal.overflow_mul-held

@@ -6,8 +6,6 @@ use Rattle.mw_c_lent.specs.Rows.{HasImageRows}
 use Rattle.mw_c_lent.specs.Rules.{rule_picture}
 use Rattle.mw_c_lent.specs.Composites.{first_made}
 use Rattle.mw_c_lent.specs.Standing.{seen_from, seen_to}
-use Rattle.mw_c_lent.specs.Suited.{SuitRule}
-use Rattle.mw_c_lent.proofs.InStrips.{first_suits}
 use Rattle.mw_c_lent.proofs.by_strips.put_next.Goals as goal
 
 pub let_stand-requires-clause-stands : goal.let_stand-requires-clause-stands

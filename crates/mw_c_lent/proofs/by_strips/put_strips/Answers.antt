@@ -1,8 +1,7 @@
-use Rattle.std.proofs.Common.{◌≡◌, ℕ, ◌+◌, ◌-◌, ◌*◌, ◌<◌, ◌≤◌, min, List, length, refl, sym, subst, arith, inl, inr, ◌∙◌}
+use Rattle.std.proofs.Common.{◌≡◌, ℕ, ◌+◌, ◌-◌, ◌*◌, ◌≤◌, min, length, refl, sym, subst, arith, inl, inr, ◌∙◌}
 use Rattle.mw_model.specs.declared.offsets.Rect.{Rect}
 use Rattle.mw_c_arrays.specs.Sources.{picture_in}
 use Rattle.mw_c_lent.specs.Composites.{composite_picture, first_made}
-use Rattle.mw_c_lent.specs.Rows.{HasImageRows}
 use Rattle.mw_c_lent.specs.Rules.{rule_picture}
 use Rattle.mw_c_lent.specs.Standing.{seen_from, seen_to}
 use Rattle.mw_c_lent.proofs.InStrips.{none_held, room_behind}

@@ -1,4 +1,4 @@
-use Rattle.std.proofs.Common.{ℕ, ◌+◌, subst, arith}
+use Rattle.std.proofs.Common.{◌+◌, subst, arith}
 use Rattle.mw_c_arrays.specs.Sources.{picture_in}
 use Rattle.mw_c_lent.specs.declared.composites.Composite.{Composite}
 use Rattle.mw_c_lent.specs.Composites.{LooksWithin, first_made}

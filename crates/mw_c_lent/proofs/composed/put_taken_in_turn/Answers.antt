@@ -4,7 +4,6 @@ use Rattle.mw_c_lent.specs.Rules.{rule_picture}
 use Rattle.mw_c_lent.proofs.InStrips.{view_place, view_rows}
 use Rattle.mw_c_lent.proofs.Lessened.{strip_less, strip_of_view}
 use Rattle.mw_c_lent.proofs.Slid.{frame_strip}
-use Rattle.mw_c_lent.proofs.Steps.{strip_above}
 use Rattle.mw_c_lent.proofs.composed.put_taken_in_turn.Goals as goal
 
 pub own_rows-requires : goal.own_rows-requires
