@@ -165,7 +165,7 @@ fn is_small(tile: Rect) -> bool
 }
 
 /// Writes the extremum of the neutral sample and those that are lent under offsets, at each place of a tile, if it can: offset by
-/// offset where they lie in short runs, and else by the chords of the runs, or again by offsets where these are refused.
+/// offset where these are few and lie in short runs, else by the chords of the runs, and where that is refused by offsets after all.
 fn extremum_under<P: Laned, E: LanedExtremum<P>>(
     room: &mut Room<P>,
     lent: &Lent<P>,
@@ -184,7 +184,9 @@ fn extremum_under<P: Laned, E: LanedExtremum<P>>(
         return Ok(false);
     }
     if is_quick(offsets) {
-        return offsets_into::<P, E>(room, lent, offsets, neutral, tile, out);
+        if offsets_into::<P, E>(room, lent, offsets, neutral, tile, out)? {
+            return Ok(true);
+        }
     }
     if chords_into::<P, E>(room, lent, offsets, neutral, tile, out)? {
         return Ok(true);

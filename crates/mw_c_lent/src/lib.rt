@@ -37,6 +37,5 @@ pub use in_place::{Middle, middle_of, put_middle};
 pub use lendable::Lendable;
 pub use mw_c_arrays::ArrayImage;
 pub use mw_element::Element;
-pub use mw_line_lent::copies;
 pub use mw_model::NoMemory;
 pub use rules::Rule;
