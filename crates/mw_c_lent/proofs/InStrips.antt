@@ -1,6 +1,8 @@
 -- What two extrema under elements of any shape make of an image, in strips.
-use Rattle.std.proofs.Common.{◌≡◌, ℕ, ◌+◌, ◌-◌, ◌*◌, ◌/◌, ◌%◌, ◌<◌, ◌≤◌, List, length, Option, None, Some, inl, inr, ap, sym, arith, ◌∙◌}
+use Rattle.std.proofs.Common.{◌≡◌, ℕ, zero, suc, ℤ, pos, negsuc, neg_ℤ, ◌+ℤ◌, ◌≤ℤ◌, ◌+◌, ◌-◌, ◌*◌, ◌/◌, ◌%◌, ◌<◌, ◌≤◌, List, [], ◌∷◌, length, Option, None, Some, inl, inr, ap, sym, arith, ◌∙◌}
 use Rattle.std.proofs.lemmas.Bool.{cases_lt}
+use Rattle.std.proofs.lemmas.Int.{ints}
+use Rattle.std.specs.List.{AllByRecursion}
 use Rattle.std.proofs.lemmas.Nat.{mul-le}
 use Rattle.std.proofs.Math.Nat.{div-add-mod, mod-lt}
 use Rattle.std.specs.Prelude.{IfNone}
@@ -10,6 +12,9 @@ use Rattle.mw_model.specs.declared.offsets.Rect.{Rect}
 use Rattle.mw_model.specs.Pictures.{IsPicture, Picture}
 use Rattle.mw_model.specs.Windows.{View}
 use Rattle.mw_grid.specs.Rectangles.{whole_frame}
+use Rattle.mw_model.specs.Elements.{reach_of}
+use Rattle.mw_model.specs.Rectangles.{nonnegative}
+use Rattle.mw_offset_lent.specs.Offsets.{LeadsWithin}
 use Rattle.mw_c_lent.specs.declared.composites.Composite.{Composite}
 use Rattle.mw_c_lent.specs.declared.composites.Composite.TheVariants as composite
 use Rattle.mw_c_lent.specs.declared.rules.Rule.{Rule}
@@ -20,7 +25,7 @@ use Rattle.mw_c_lent.specs.InTurn.{IsElementRule}
 use Rattle.mw_c_lent.specs.Rows.{IsStrip}
 use Rattle.mw_c_lent.specs.Rules.{rule_picture}
 use Rattle.mw_c_lent.specs.Slides.{AreFrameRows}
-use Rattle.mw_c_lent.specs.Suited.{IsFirstHeight, IsNearRule, SuitComposite, SuitRule, SuitTile}
+use Rattle.mw_c_lent.specs.Suited.{IsFirstHeight, IsNearRule, SuitComposite, SuitRule, SuitTile, rows_beside}
 use Rattle.mw_c_lent.proofs.Lessened.{less_size}
 use Rattle.mw_c_lent.proofs.Rows.{between_count}
 use Rattle.mw_c_lent.proofs.Slid.{whole_sides}
@@ -146,3 +151,31 @@ bytes_within bytes row rows w least some narrow few =
 pub none_then : {X : Type 0} (r : Option X) {P Q : Type 0} → IfNone r P → (P → Q) → IfNone r Q
 none_then None h f = f h
 none_then (Some x) h f = tt
+
+-- ---- how far near offsets lead
+
+up_near : (z : ℤ) (m : ℕ) → pos 0 ≤ℤ (z +ℤ pos m) → nonnegative (neg_ℤ z) ≤ m
+up_near (pos zero) m is = omega arith
+up_near (pos (suc n)) m is = omega arith
+up_near (negsuc n) m is = omega (arith, ints, is)
+
+down_near : (z : ℤ) (m : ℕ) → z ≤ℤ pos m → nonnegative z ≤ m
+down_near (pos n) m is = omega (arith, ints, is)
+down_near (negsuc n) m is = omega arith
+
+rows_near : (bs : List Offset) → AllByRecursion (LeadsWithin 64 64) bs → ((reach_of bs).up ≤ 64) × ((reach_of bs).down ≤ 64)
+rows_near [] is = (omega arith, omega arith)
+rows_near (b ∷ bs) is =
+    let rest = rows_near bs is.1 in
+    let above = up_near b.dy 64 is.0.up in
+    let below = down_near b.dy 64 is.0.down in
+    (omega (arith, above, rest.0), omega (arith, below, rest.1))
+
+-- a rule looks at few rows beside one
+pub near_low : (x : Rule) → IsNearRule x → rows_beside x ≤ 128
+near_low (rules.Least e) is = let both = rows_near (arc_value e.now).offsets is.1 in omega (arith, both.0, both.1)
+near_low (rules.Greatest e) is = let both = rows_near (arc_value e.now).offsets is.1 in omega (arith, both.0, both.1)
+near_low (rules.LeastBox b) is = absurd is
+near_low (rules.GreatestBox b) is = absurd is
+near_low (rules.Nth e k) is = absurd is
+near_low (rules.AtLeast k) is = absurd is

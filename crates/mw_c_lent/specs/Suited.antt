@@ -57,7 +57,6 @@ pub record IsMadeByStrips (top : ℕ) (c : Composite) (f : ArrayImage) (first en
   pub maxval : (picture_in f).maxval ≤ top
   pub first_is : IsNearRule (first_rule c)
   pub last_is : IsNearRule (last_rule c)
-  pub low : rows_beside (last_rule c) ≤ 255
   pub wide : 128 ≤ (picture_in f).width
   pub few : (5 * rows_beside (last_rule c) + 16) * (2 * (picture_in f).width) ≤ 1703936
   pub some : 64 ≤ end - first

@@ -9,7 +9,7 @@ use Rattle.mw_c_lent.specs.declared.composites.Composite.{Composite}
 use Rattle.mw_c_lent.specs.Composites.{composite_picture}
 use Rattle.mw_c_lent.specs.InPlace.{IsWholeView}
 use Rattle.mw_c_lent.specs.Rows.{EndAt, HasImageRows}
-use Rattle.mw_c_lent.proofs.InStrips.{first_size, held_room, near_element, near_suits}
+use Rattle.mw_c_lent.proofs.InStrips.{first_size, held_room, near_element, near_low, near_suits}
 use Rattle.mw_c_lent.proofs.Views.{whole_is}
 use Rattle.mw_c_lent.specs.Composites.{first_rule, last_rule}
 use Rattle.mw_c_lent.specs.Suited.{SuitComposite, rows_beside}
@@ -76,7 +76,7 @@ returns-then-is_small-clause-taken g c = λ m.
 
 pub returns-in_default-composition_of-clause-taken : goal.returns-in_default-composition_of-clause-taken
 returns-in_default-composition_of-clause-taken g c = λ m.
-    absurd (c.in_default-composition_of.ensures.none (near_element (first_rule c.args.composite) m.first_is, near_element (last_rule c.args.composite) m.last_is) m.low (omega (arith, m.wide)))
+    absurd (c.in_default-composition_of.ensures.none (near_element (first_rule c.args.composite) m.first_is, near_element (last_rule c.args.composite) m.last_is) (omega (arith, near_low (last_rule c.args.composite) m.last_is)) (omega (arith, m.wide)))
 
 pub returns-in_default-rows_of-clause-taken : goal.returns-in_default-rows_of-clause-taken
 returns-in_default-rows_of-clause-taken g c = λ m.
