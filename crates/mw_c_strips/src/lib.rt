@@ -4,8 +4,8 @@
 //! take more. An operator of a single step makes any rows of its result alone.
 //!
 //! `mw_c_forms` tells what a plan makes, `mw_c_layers` makes the strips, and `mw_c_places` those for which memory is refused, place by
-//! place; here frames are cut into strips, and these written. Kernels of rows that stand (`mw_c_lent`) come first where there are some:
-//! what rows they leave are made strip by strip.
+//! place; here frames are cut into strips, and these written. Kernels of rows that stand (`mw_c_lent`) come first where there are some, for
+//! all rows at once, or of a difference strip by strip.
 //!
 //! ```text
 //! let f = ArrayImage::Grey8(Grey8 { samples: &bytes, width: 640, height: 480, maxval: 255 });
@@ -20,6 +20,7 @@ mod applying_rows;
 mod by_pixel;
 mod cuts;
 mod gathering;
+mod placing;
 mod room;
 mod samples;
 mod writing;

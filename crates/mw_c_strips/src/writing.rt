@@ -15,6 +15,7 @@ ghost use Rattle.mw_c_strips.specs.Rows.{AreRows, EndAt, rows_from};
 use crate::Sample;
 use crate::by_pixel::level_at;
 use crate::cuts::{ask_once, rows_of, strip_from};
+use crate::placing::put_in_place;
 use mw_c_arrays::ArrayImage;
 use mw_c_layers::{Formula, Layer, Origin, origin_of, strip_of};
 use mw_c_lent::{Composite, Middle, middle_of, put_composite, put_middle};
@@ -78,7 +79,28 @@ fn put_rows<P: Sample>(image: &Image, strip: Rect, done: u32, out: &mut [P])
     P::put(image, &mut out[start..start + count]);
 }
 
-/// Makes an image of a strip, and writes its rows behind so many rows that are done.
+/// Writes the rows of a strip behind so many rows that are done, if there are kernels for that.
+fn put_standing<P: Sample>(
+    alloc: Global,
+    formula: Formula<'_>,
+    strip: Rect,
+    done: u32,
+    out: &mut [P],
+) -> Result<bool, NoMemory>
+    requires sound { IsFormula formula }
+    requires strip { IsStrip strip (formula_picture formula) }
+    requires room { done * strip.width + strip.height * strip.width ≤ length out.old }
+    ensures made { IfOk result (λ is. is ≡ true → (first : ℕ) → strip.y ≡ first + done → HasImageRows P.level (formula_picture formula.entry) first strip.y out.old → HasImageRows P.level (formula_picture formula.entry) first (strip.y + strip.height) out.new) }
+    ensures left_out { IfOk result (λ is. is ≡ false → out.new ≡ out.old) }
+    ensures kept { IfErr result (λ _. out.new ≡ out.old) }
+{
+    let start = done as usize * strip.width as usize;
+    let count = strip.height as usize * strip.width as usize;
+    let end = start + count;
+    put_in_place(alloc, formula, strip, &mut out[start..end])
+}
+
+/// Writes the rows of a strip behind so many rows that are done: where they are to stand, or by an image of them.
 fn put_made<P: Sample>(
     alloc: Global,
     formula: Formula<'_>,
@@ -93,6 +115,9 @@ fn put_made<P: Sample>(
     ensures made { IfOk result (λ _. (first : ℕ) → strip.y ≡ first + done → HasImageRows P.level (formula_picture formula.entry) first strip.y out.old → HasImageRows P.level (formula_picture formula.entry) first (strip.y + strip.height) out.new) }
     ensures kept { IfErr result (λ _. out.new ≡ out.old) }
 {
+    if put_standing(alloc, formula, strip, done, out)? {
+        return Ok(());
+    }
     let image = strip_of(alloc, formula, strip)?;
     put_rows(&image, strip, done, out);
     Ok(())
