@@ -112,6 +112,18 @@ static void composites(void) {
     flat_u8(MORPHD_OPEN, 0, (sides){WIDE, HIGH, 41}, samples, slanted, out);
 }
 
+// Differences that no kernel makes for all rows at once: gradients by a rectangle beside its origin and in frames of few columns, and top-hats
+// through a plane in small frames.
+static void differences(void) {
+    size_t count = (size_t)WIDE * HIGH, narrow = (size_t)17 * 8192;
+    uint8_t *samples = bytes(count, 256), *beside = calloc(11, 5), *out = bytes(count, 256), *small = element(3, 0), *cross = element(3, 1);
+    if (beside == NULL) exit(2);
+    for (int i = 0; i < 5; i++) memset(beside + 11 * i + 6, 1, 5);
+    done(morphd_flat_u8(MORPHD_GRADIENT, 0, WIDE, HIGH, 255, samples, count, beside, 55, 11, 5, 0, 2, out, count));
+    done(morphd_flat_u16(MORPHD_GRADIENT, 0, 17, 8192, 65535, (uint16_t *)samples, narrow, small, 9, 3, 3, 1, 1, (uint16_t *)out, narrow));
+    for (int round = 0; round < 100; round++) flat_u8(MORPHD_WHITE_TOP_HAT, 0, (sides){65, 60, 3}, samples, cross, out);
+}
+
 // On frames of one row and of few, over and over: what is asked for and filled there.
 static void low_frames(void) {
     sides one = {8192, 1, 15}, few = {65, 64, 9};
@@ -156,8 +168,8 @@ int main(int argc, char **argv) {
         const char *name;
         void (*run)(void);
     } workloads[] = {{"small_calls", small_calls}, {"strips", strips}, {"standing_rows", standing_rows},
-                     {"composites", composites}, {"low_frames", low_frames}, {"set_strips", set_strips}, {"rows", rows},
-                     {"iterated", iterated}};
+                     {"composites", composites}, {"differences", differences}, {"low_frames", low_frames}, {"set_strips", set_strips},
+                     {"rows", rows}, {"iterated", iterated}};
     for (size_t i = 0; argc == 2 && i < sizeof workloads / sizeof *workloads; i++)
         if (strcmp(argv[1], workloads[i].name) == 0) {
             workloads[i].run();
