@@ -110,6 +110,9 @@ static void composites(void) {
     flat_u8(MORPHD_GRADIENT, 0, (sides){WIDE, HIGH, 5}, samples, disc, out);
     flat_u8(MORPHD_WHITE_TOP_HAT, 0, (sides){WIDE, HIGH, 15}, samples, large, out);
     flat_u8(MORPHD_OPEN, 0, (sides){WIDE, HIGH, 41}, samples, slanted, out);
+    // so wide that memory holds few more rows of a strip than the second step looks at beyond it
+    size_t more = (size_t)8192 * 400;
+    flat_u8(MORPHD_CLOSE, 0, (sides){8192, 400, 101}, bytes(more, 256), diagonal(101), bytes(more, 256));
 }
 
 // Differences that no kernel makes for all rows at once: gradients by a rectangle beside its origin and in frames of few columns, and top-hats
