@@ -6,6 +6,7 @@ use Rattle.mw_step.specs.mw_step_task.Products.{IsMade}
 use Rattle.mw_step.specs.mw_step_task.declared.done.TaskRefused.{TaskRefused}
 use Rattle.mw_step.specs.mw_step_task.declared.tile_result.TileResult.{TileResult}
 use Rattle.mw_model.specs.declared.memory.NoMemory.{NoMemory}
+use Rattle.mw_core_waves.specs.declared.shared.Hands.{Hands}
 use Rattle.mw_core_waves.specs.declared.shared.MadeTile.{MadeTile}
 use Rattle.mw_core_waves.specs.declared.job.WaveTask.{WaveTask}
 use Rattle.mw_core_waves.specs.declared.job.WaveTask.TheVariants as job
@@ -50,6 +51,11 @@ IsMadeAt jobs made = IsMadeFor (slice_index_or jobs made.place job.Nothing) made
 -- so is all that one worker made
 abbrev pub HandIsMade : {A : Type 0} → List WaveTask → Vec MadeTile A → Type 0
 HandIsMade jobs hand = AllByRecursion (IsMadeAt jobs) hand.items
+
+-- so is all that was made in a wave
+pub record AreMadeHands (jobs : List WaveTask) (h : Hands) : Type 0 where
+  pub mine : HandIsMade jobs h.mine
+  pub theirs : AllByRecursion (HandIsMade jobs) h.theirs.items
 
 -- no sample of the windows in this place is over the maxval of its source
 abbrev pub IsBoundedJob : WaveTask → Type 0

@@ -9,7 +9,7 @@ use std::alloc::{AllocError, Global};
 /// How many bytes the tasks of a wave make for each worker, and take themselves. They are held until they are handed back. Fewer
 /// would start threads anew more often than the tasks are worth; of more, the first wave is taken and the last handed back
 /// while the others wait.
-const BYTES_PER_WORKER: u64 = 4 << 20;
+const BYTES_PER_WORKER: u64 = 2 << 20;
 
 /// Never fewer tasks than this for each worker, so that those that take longer are made up for by others.
 const LEAST_PER_WORKER: u64 = 8;

@@ -1,15 +1,15 @@
 //! Places of a wave.
 
 ghost use Rattle.std.specs.Prelude.{IfOk};
-ghost use Rattle.std.specs.List.{AllByRecursion, AllZip};
+ghost use Rattle.std.specs.List.{AllZip};
 ghost use Rattle.mw_step.specs.mw_step_task.Products.{IsMade};
-ghost use Rattle.mw_core_waves.specs.Jobs.{HandIsMade, IsAnswered, IsAnswerTo};
+ghost use Rattle.mw_core_waves.specs.Jobs.{AreMadeHands, IsAnswered, IsAnswerTo};
 
 use crate::Crew;
-use crate::shared::{MadeTile, put_all, put_hand};
+use crate::shared::Hands;
 use mw_model::NoMemory;
 use mw_step::task::{TaskRefused, TileDone, TileResult, Work};
-use std::alloc::{AllocError, Global};
+use std::alloc::Global;
 use std::thread::Threads;
 use std::{mem, thread};
 
@@ -73,21 +73,18 @@ fn run_rest<T: Threads + Sync>(crew: Crew<T>, is_wanted: bool, jobs: &mut [WaveT
     );
 }
 
-/// Answers all tasks in their places by what was made of them: by the others, and by the one who has the core. What was lost
-/// for want of memory is run here, and what is not wanted is refused.
+/// Answers all tasks in their places by what was made of them. What was lost for want of memory is run here, and what is not
+/// wanted is refused.
 fn answer_all<T: Threads + Sync>(
     crew: Crew<T>,
     is_wanted: bool,
-    theirs: Result<Vec<Vec<MadeTile>>, AllocError>,
-    mine: Vec<MadeTile>,
+    hands: Hands,
     jobs: &mut [WaveTask],
 )
-    requires theirs { IfOk theirs (λ hands. AllByRecursion (HandIsMade jobs.old) hands.items) }
-    requires mine { HandIsMade jobs.old mine }
+    requires { AreMadeHands jobs.old hands }
     ensures { AllZip IsAnswered jobs.old jobs.new }
 {
-    put_all(theirs, jobs);
-    put_hand(mine, jobs);
+    hands.put(jobs);
     run_rest(crew, is_wanted, jobs);
 }
 
@@ -95,14 +92,12 @@ fn answer_all<T: Threads + Sync>(
 pub(crate) fn answered<T: Threads + Sync>(
     crew: Crew<T>,
     is_wanted: bool,
-    theirs: Result<Vec<Vec<MadeTile>>, AllocError>,
-    mine: Vec<MadeTile>,
+    hands: Hands,
     mut jobs: Vec<WaveTask>,
 ) -> Vec<WaveTask>
-    requires theirs { IfOk theirs (λ hands. AllByRecursion (HandIsMade jobs.items) hands.items) }
-    requires mine { HandIsMade jobs.items mine }
+    requires { AreMadeHands jobs.items hands }
     ensures { AllZip IsAnswered jobs.items result.items }
 {
-    answer_all(crew, is_wanted, theirs, mine, jobs.as_mut_slice());
+    answer_all(crew, is_wanted, hands, jobs.as_mut_slice());
     jobs
 }

@@ -1,23 +1,29 @@
 //! Tasks of a wave that workers share: each makes the next one that nobody has begun.
 
-ghost use Rattle.std.specs.Prelude.{IfOk, IfSome, vec_items};
+ghost use Rattle.std.specs.Prelude.{IfSome, List};
 ghost use Rattle.std.specs.List.{AllByRecursion, AllZip};
-ghost use Rattle.mw_core_waves.specs.Jobs.{HandIsMade, IsKept, IsMadeAt};
+ghost use Rattle.mw_core_waves.specs.declared.job.WaveTask.{WaveTask};
+ghost use Rattle.mw_core_waves.specs.Jobs.{AreMadeHands, HandIsMade, IsKept, IsMadeAt};
 
 use crate::job::WaveTask;
-use crate::pick::{All, Pick};
+use crate::pick::Pick;
 use mw_model::NoMemory;
 use mw_step::task::TileResult;
-use std::alloc::{AllocError, Global};
+use std::alloc::Global;
 use std::sync::atomic::{AtomicUsize, Ordering};
-use std::thread;
-use std::thread::Threads;
 
 /// What was made for the task in a place of a wave.
 #[derive(Drop)]
 pub struct MadeTile {
     pub place: usize,
     pub tile: Result<TileResult, NoMemory>,
+}
+
+/// What was made of the tasks of a wave: by the one who has the core, and by each of the others.
+#[derive(Drop)]
+pub struct Hands {
+    pub mine: Vec<MadeTile>,
+    pub theirs: Vec<Vec<MadeTile>>,
 }
 
 /// Makes the task in this place, if one waits there.
@@ -62,26 +68,6 @@ pub(crate) fn make_some<P: Pick>(
     hand
 }
 
-/// What so many workers made of the tasks that wait, each in a thread.
-pub(crate) fn make_by<T: Threads + Sync>(
-    rt: &T,
-    alloc: Global,
-    workers: usize,
-    jobs: &[WaveTask],
-    begun: &AtomicUsize,
-) -> Result<Vec<Vec<MadeTile>>, AllocError>
-    ensures { IfOk result (λ hands. AllByRecursion (HandIsMade jobs.now) hands.items) }
-{
-    thread::map_indices(
-        rt,
-        alloc,
-        workers,
-        &move |_worker: usize| -> Vec<MadeTile>
-            ensures { AllByRecursion (IsMadeAt jobs.entry.now) result.items }
-        { make_some(alloc, jobs, begun, &mut All) },
-    )
-}
-
 /// Answers the task in its place, if it waits there yet.
 fn put(made: MadeTile, jobs: &mut [WaveTask])
     requires { IsMadeAt jobs.old made }
@@ -112,13 +98,22 @@ fn put_hands(hands: Vec<Vec<MadeTile>>, jobs: &mut [WaveTask])
     }
 }
 
-/// Answers the tasks of which several workers made something, where there was memory for what they made.
-pub(crate) fn put_all(hands: Result<Vec<Vec<MadeTile>>, AllocError>, jobs: &mut [WaveTask])
-    requires { IfOk hands (λ v. AllByRecursion (HandIsMade jobs.old) v.items) }
-    ensures { AllZip IsKept jobs.old jobs.new }
-{
-    match hands {
-        Ok(hands) => put_hands(hands, jobs),
-        Err(_) => {}
+impl Hands {
+    ghost use Rattle.std.specs.Prelude.{length};
+
+    /// Takes what one more of the others made. Where there is no room for it, it is lost, and its tasks are run anew.
+    pub(crate) fn take(&mut self, hand: Vec<MadeTile>)
+        ensures { (jobs : List WaveTask) → AreMadeHands jobs self.old → HandIsMade jobs hand → AreMadeHands jobs self.new }
+    {
+        let _taken = self.theirs.push(hand);
+    }
+
+    /// Answers the tasks of which something was made.
+    pub(crate) fn put(self, jobs: &mut [WaveTask])
+        requires { AreMadeHands jobs.old self }
+        ensures { AllZip IsKept jobs.old jobs.new }
+    {
+        put_hands(self.theirs, jobs);
+        put_hand(self.mine, jobs);
     }
 }

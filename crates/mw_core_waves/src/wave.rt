@@ -1,24 +1,25 @@
 //! A wave: tasks that are taken from the core, run, and handed back.
 
-ghost use Rattle.std.specs.Prelude.{◌≡◌, ◌<◌, ◌≤◌, ◌+◌, ◌++◌, ◌∷◌, [], ℕ, List, IfOk, IfSome, vec_len, vec_capacity};
+ghost use Rattle.std.specs.Prelude.{◌≡◌, ◌<◌, ◌≤◌, ◌+◌, ◌++◌, ◌∷◌, [], ℕ, List, IfSome, vec_len, vec_capacity};
 ghost use Rattle.std.specs.List.{AllByRecursion};
 ghost use Rattle.mw_model.specs.Machine.{Machine};
 ghost use Rattle.mw_model.specs.Stands.{CoreView, StandsFor, ready_count, running_count};
 ghost use Rattle.mw_step.specs.mw_step_task.WindowTasks.{IsBounded};
 ghost use Rattle.mw_core.specs.TaskAnswers.{Picks, StartsBounded};
 ghost use Rattle.mw_core_waves.specs.declared.job.WaveTask.{WaveTask};
-ghost use Rattle.mw_core_waves.specs.Jobs.{HandIsMade, IsBoundedJob};
+ghost use Rattle.mw_core_waves.specs.Jobs.{AreMadeHands, HandIsMade, IsBoundedJob};
 ghost use Rattle.mw_core_waves.specs.Waves.{Underway, Took};
 ghost use Rattle.mw_core_waves.specs.Work.{Turned};
 
 use crate::crew::WaveSize;
 use crate::job::{WaveTask, answered};
-use crate::shared::{MadeTile, make_by, make_some};
+use crate::pick::All;
+use crate::shared::{Hands, MadeTile, make_some};
 use crate::worth::{is_small, task_bytes};
 use crate::{Crew, Pick};
 use mw_core::{Core, Started};
 use mw_step::task::{TaskRefused, TileDone, Work};
-use std::alloc::{AllocError, Global};
+use std::alloc::Global;
 use std::sync::atomic::AtomicUsize;
 use std::thread::Threads;
 use std::{mem, thread};
@@ -160,43 +161,56 @@ fn own_part<P: Pick>(
     make_some(alloc, jobs, begun, pick)
 }
 
-/// Makes the tasks of a wave in as many threads as they are worth, none beside this where they are not wanted. The one who
-/// has the core does his own part first. Gives what the others made, and what he made himself.
+/// How a wave is made: so many others make its tasks, while the next wave is taken up to this size.
+#[derive(Clone, Copy)]
+struct Making {
+    alloc: Global,
+    size: WaveSize,
+    others: usize,
+}
+
+/// What is made of the tasks of a wave: by others, each in a thread, and by the one who has the core, who does his own part
+/// first. He starts all threads himself, one behind the other: a thread that another one started would begin later than
+/// that.
+#[cycle(hands)]
 fn make_beside<P: Pick, T: Threads + Sync>(
-    crew: Crew<T>,
+    rt: &T,
+    making: Making,
     jobs: &[WaveTask],
+    begun: &AtomicUsize,
     core: &mut Core,
     pick: &mut P,
     beside: &mut Vec<WaveTask>,
-) -> (Result<Vec<Vec<MadeTile>>, AllocError>, Vec<MadeTile>)
+) -> Hands
     requires { AllByRecursion IsBoundedJob beside.old.items }
     ensures underway { (m : Machine) (old : CoreView) (others : List WaveTask) → Underway m old core.old (beside.old.items ++ others) 1 → Underway m old core.new (others ++ beside.new.items) 1 }
     ensures bounded { AllByRecursion IsBoundedJob beside.new.items }
-    ensures theirs { IfOk result.0 (λ hands. AllByRecursion (HandIsMade jobs.now) hands.items) }
-    ensures mine { HandIsMade jobs.now result.1 }
+    ensures made { AreMadeHands jobs.now result }
 {
-    let next = AtomicUsize::new(0);
-    let (rt, alloc, begun) = (crew.rt, crew.alloc, &next);
-    let size = crew.wave_size(core.least_side());
-    let others = if pick.is_wanted() {
-        crew.others(jobs)
-    } else {
-        0
-    };
+    let Making {
+        alloc,
+        size,
+        others,
+    } = making;
     if others == 0 {
         let mine = own_part(alloc, size, jobs, begun, core, pick, beside);
-        return (Ok(Vec::new(alloc)), mine);
+        let theirs = Vec::new(alloc);
+        return Hands { mine, theirs };
     }
-    thread::join_mut(
-        rt,
-        &mut || -> Result<Vec<Vec<MadeTile>>, AllocError>
-            ensures { IfOk result (λ hands. AllByRecursion (HandIsMade jobs.entry.now) hands.items) }
-        { make_by(rt, alloc, others, jobs, begun) },
-        &mut || -> Vec<MadeTile>
-            requires { AllByRecursion IsBoundedJob beside.now.items }
-            ensures { ((m : Machine) (old : CoreView) (others : List WaveTask) → Underway m old core.entry.now (beside.entry.now.items ++ others) 1 → Underway m old core.exit.now (others ++ beside.exit.now.items) 1) × AllByRecursion IsBoundedJob beside.exit.now.items × HandIsMade jobs.entry.now result }
-        { own_part(alloc, size, jobs, begun, core, pick, beside) },
-    )
+    let fewer = Making {
+        others: others - 1,
+        ..making
+    };
+    let mut one = || -> Vec<MadeTile>
+        ensures { HandIsMade jobs.entry.now result }
+    { make_some(alloc, jobs, begun, &mut All) };
+    let mut rest = || -> Hands
+        requires { AllByRecursion IsBoundedJob beside.now.items }
+        ensures { ((m : Machine) (old : CoreView) (others : List WaveTask) → Underway m old core.entry.now (beside.entry.now.items ++ others) 1 → Underway m old core.exit.now (others ++ beside.exit.now.items) 1) × AllByRecursion IsBoundedJob beside.exit.now.items × AreMadeHands jobs.entry.now result }
+    { make_beside(rt, fewer, jobs, begun, core, pick, beside) };
+    let (hand, mut hands) = thread::join_mut(rt, &mut one, &mut rest);
+    hands.take(hand);
+    hands
 }
 
 /// One turn of work: gives a wave with all tasks answered in their places. Meanwhile the wave before is handed back, and the
@@ -214,8 +228,18 @@ fn turn<P: Pick, T: Threads + Sync>(
     ensures jobs { AllByRecursion IsBoundedJob result.items }
     ensures beside { AllByRecursion IsBoundedJob beside.new.items }
 {
-    let (theirs, mine) = make_beside(crew, jobs.as_slice(), core, pick, beside);
-    answered(crew, pick.is_wanted(), theirs, mine, jobs)
+    let begun = AtomicUsize::new(0);
+    let making = Making {
+        alloc: crew.alloc,
+        size: crew.wave_size(core.least_side()),
+        others: if pick.is_wanted() {
+            crew.others(&jobs)
+        } else {
+            0
+        },
+    };
+    let hands = make_beside(crew.rt, making, &jobs, &begun, core, pick, beside);
+    answered(crew, pick.is_wanted(), hands, jobs)
 }
 
 /// Runs wave after wave, beginning with these tasks, until none is ready and all are handed back.

@@ -25,8 +25,11 @@ const ALONE: u64 = 80;
 /// So many pixels of a set take as long as a sample of 8 bits.
 const PIXELS_A_SAMPLE: u64 = 24;
 
+/// So much more for each byte that a task makes, which is new to the cache, and often to the process.
+const MADE: u64 = 300;
+
 /// To hand a task over and to take its answer back.
-const HANDED_OVER: u64 = 3_000_000;
+const HANDED_OVER: u64 = 2_000_000;
 
 /// A thread more is started for so much of a wave, since it takes half as long to start one.
 const THREAD: u64 = 100_000_000;
@@ -68,7 +71,8 @@ fn worth(work: &Work) -> u64 {
     for window in work.windows() {
         count = count.saturating_add(samples(window.kind(), window.maxval(), window.place()));
     }
-    count.saturating_mul(each(work.step()))
+    let looked = count.saturating_mul(each(work.step()));
+    looked.saturating_add(task_bytes(work).saturating_mul(MADE))
 }
 
 /// The bytes of a plane of so many pixels.

@@ -4,6 +4,7 @@ pub mod Files
 pub mod RowTexts
 pub mod Sides
 -- the crate's own
+mod Bounds
 mod Chunks
 mod CutRows
 mod Lanes

@@ -1,5 +1,5 @@
 -- What is read fits its header.
-use Rattle.std.proofs.Common.{◌≡◌, ℕ, ◌-◌, ◌*◌, ◌≤◌, List, Ok}
+use Rattle.std.proofs.Common.{◌≡◌, ℕ, ◌*◌, ◌≤◌, List, Ok}
 use Rattle.std.proofs.lemmas.List.Elements.{All-from_recursion}
 use Rattle.mw_netpbm.specs.Rasters.{grey8_at, grey16_at, bits_in_raster}
 use Rattle.mw_netpbm_plain.specs.Whole.{IsFit}

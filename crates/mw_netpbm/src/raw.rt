@@ -1,6 +1,6 @@
 //! Raw rasters: samples of one or two bytes, or pixels of one bit, which become words; by vectors, 64 bytes at a time.
 
-ghost use Rattle.std.specs.Prelude.{◌≡◌, ℕ, ◌≤◌, ◌<◌, ◌*◌, ◌+◌, ◌/◌, ◌++◌, List, length, IfOk, OnOk, fold, max, take, drop, vec_len};
+ghost use Rattle.std.specs.Prelude.{◌≡◌, ℕ, ◌≤◌, ◌<◌, ◌*◌, ◌+◌, ◌/◌, ◌++◌, List, length, IfOk, OnOk, IsTrue, ◌↔◌, fold, max, take, drop, vec_len};
 ghost use Rattle.mw_model.specs.declared.limits.TheConstants.{PIXEL_LIMIT, SIDE_LIMIT};
 ghost use Rattle.mw_netpbm_plain.specs.Reading.{result_viewed, Gives};
 ghost use Rattle.mw_netpbm.specs.Rasters.{two_byte_samples, row_bits, rows_bits, grey8_at, grey16_at, bits_in_raster};
@@ -23,6 +23,13 @@ fn greatest8(samples: &[u8]) -> u8
     most
 }
 
+/// Whether a sample is over the maxval. None is over 255, so where that is the maxval, none is looked at.
+fn is_over8(samples: &[u8], maxval: u8) -> bool
+    ensures { IsTrue result ↔ maxval < fold max 0 samples.now }
+{
+    maxval < u8::MAX && greatest8(samples) > maxval
+}
+
 /// The bytes of a raster that are samples of one byte each.
 #[tactic(auto, unfolding(crate::specs::Rasters::grey8_at))]
 fn samples8(count: usize, maxval: u8, raster: &[u8]) -> Result<&[u8], ReadFault>
@@ -32,7 +39,7 @@ fn samples8(count: usize, maxval: u8, raster: &[u8]) -> Result<&[u8], ReadFault>
         return Err(ReadFault::Short);
     }
     let (samples, rest) = raster.split_at(count);
-    if greatest8(samples) > maxval {
+    if is_over8(samples, maxval) {
         return Err(ReadFault::Sample);
     }
     if !rest.is_empty() {
@@ -143,6 +150,13 @@ fn words(alloc: Global, count: usize, bytes: &[u8]) -> Result<Vec<u16>, AllocErr
     Ok(out)
 }
 
+/// Whether one of the samples of two bytes each is over the maxval. None is over 65,535.
+fn is_over16(samples: &[u8], maxval: u16) -> bool
+    ensures { IsTrue result ↔ maxval < fold max 0 (two_byte_samples samples.now) }
+{
+    maxval < u16::MAX && greatest16(samples) > maxval
+}
+
 /// Two bytes for each sample, the higher first.
 #[tactic(auto, unfolding(crate::specs::Rasters::grey16_at))]
 pub(crate) fn grey16(
@@ -158,7 +172,7 @@ pub(crate) fn grey16(
         return Err(ReadFault::Short);
     }
     let (samples, rest) = raster.split_at(2 * count);
-    if greatest16(samples) > maxval {
+    if is_over16(samples, maxval) {
         return Err(ReadFault::Sample);
     }
     if !rest.is_empty() {
