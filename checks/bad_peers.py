@@ -12,8 +12,9 @@ import socket
 import sys
 import time
 
-from peers import ERODED, FETCHES, GIVEN, GIVEN_REPLIES, LONGEST, PICTURE, Wrong, hang_up, must_be
-from server import NoAnswer, Server, free_port
+from peers import (ERODED, FETCHES, GIVEN, GIVEN_REPLIES, LONGEST, PICTURE, Wrong, bounded, hang_up, must_be,
+                   must_be_unwritten)
+from server import NoAnswer, Server, free_port, most_held
 
 # What a server may take for each connection and each megabyte that came, in kB, besides what came.
 SLACK = 8192
@@ -81,6 +82,7 @@ def within_a_reply(program):
         must_be(peer.ask(b"LOAD large %d\n" % len(PICTURE) + PICTURE), (b"OK 2\n", b""), "the picture")
         peer.send(b"FETCH large\n" * FETCHES)
         peer.exactly(100000)
+        must_be_unwritten(server, peer, 100000 + len(peer.held))
         hang_up(peer)
         # The picture has ticket 2.
         good.made += 1
@@ -93,15 +95,20 @@ def good_again(good):
         good.goes_on()
 
 
+def goes_on_for(good: GoodClient, seconds: float) -> None:
+    """It is served as ever for so long. However quick it is, it leaves most of the board's 65,536 entries."""
+    begun = time.monotonic()
+    while time.monotonic() < begun + seconds:
+        good_again(good)
+        time.sleep(0.1)
+
+
 def keeps_silent(program):
     """sends nothing for long"""
     with Server(program, 3) as server:
         silent, good, half = server.connect(), GoodClient(server), server.connect()
         half.send(b"STAT")
-        begun = time.monotonic()
-        while time.monotonic() < begun + 5:
-            good_again(good)
-            time.sleep(0.1)
+        goes_on_for(good, 5)
         must_be(half.ask(b"US f\n"), (b"DONE 0 GREY 5 1 9\n", b""), "a line that came late")
         must_be(silent.ask(b"STATUS f\n"), (b"DONE 0 GREY 5 1 9\n", b""), "the first line of a client that was silent")
         for client in (half, silent):
@@ -117,10 +124,16 @@ def never_listens(program):
         good, peer = GoodClient(server), server.connect()
         must_be(peer.ask(b"LOAD large %d\n" % len(PICTURE) + PICTURE), (b"OK 2\n", b""), "the picture")
         good.made += 1
+        before = server.size()
         peer.send(b"FETCH large\n" * FETCHES)
-        begun = time.monotonic()
-        while time.monotonic() < begun + 3:
-            good_again(good)
+        must_be(server.is_at_rest(), True, "the server's rest")
+        # The rest is in no socket, and not in the server's memory either: a write waits.
+        must_be_unwritten(server, peer)
+        grown = server.size() - before
+        if grown > SLACK:
+            raise Wrong("%d pictures of %d bytes that nobody reads took %d kB" % (FETCHES, len(PICTURE), grown))
+        goes_on_for(good, 3)
+        must_be_unwritten(server, peer)
         # It has lost nothing: what it did not read waits for it.
         for _ in range(FETCHES):
             must_be(peer.reply(), (b"IMAGE 2 %d\n" % len(PICTURE), PICTURE), "the picture")
@@ -135,7 +148,9 @@ def many_lines_unread(program):
         good, peer = GoodClient(server), server.connect(patience=3)
         before, sent, is_full = server.size(), 0, False
         line = b"STATUS unknown\n" * 1000
-        while not is_full and sent < 1 << 28:
+        # Each line is answered by as many bytes, so the lines on their way and the replies fill what is held both ways.
+        most = 2 * most_held() + 1024 * SLACK
+        while not is_full and sent < most:
             try:
                 peer.send(line)
                 sent += len(line)
@@ -245,7 +260,8 @@ def main():
         who = "a server that" if peer is port_is_taken else "a client that"
         begun = time.monotonic()
         try:
-            seen = peer(program)
+            with bounded():
+                seen = peer(program)
         except (Wrong, NoAnswer) as fault:
             sys.exit("%s %s: %s" % (who, peer.__doc__, fault))
         print("%s %s: well, %.1f s%s" % (who, peer.__doc__, time.monotonic() - begun, "; " + seen if seen else ""), flush=True)

@@ -15,7 +15,7 @@ import sys
 import time
 
 from bad_peers import SLACK
-from peers import ERODE, FETCHES, LONGEST, PICTURE, REPLIES, Wrong, hang_up, must_be
+from peers import ERODE, FETCHES, LONGEST, PICTURE, REPLIES, Wrong, bounded, hang_up, must_be, must_be_unwritten
 from server import NoAnswer, Server, Service
 
 
@@ -63,6 +63,7 @@ def within_a_reply(program):
         must_be(peer.ask(b"LOAD large %d\n" % len(PICTURE) + PICTURE), (b"OK 0\n", b""), "the picture")
         peer.send(b"FETCH large\n" * FETCHES)
         peer.exactly(100000)
+        must_be_unwritten(service, peer, 100000 + len(peer.held))
         hang_up(peer)
         ends_well(service)
 
@@ -108,6 +109,8 @@ def never_listens(program):
         seconds = took(lambda: goes_on(service))
         if not 1 < seconds < 20:
             raise Wrong("a client that does not read is waited for %.1f s" % seconds)
+        # It was cut within a write, and not when the service waited for its next line.
+        must_be_unwritten(service, peer)
         hang_up(peer)
         ends_well(service)
         return "waited for %.1f s of 2" % seconds
@@ -235,7 +238,8 @@ def main():
         who = "a service that" if peer is port_is_taken else "a client that"
         begun = time.monotonic()
         try:
-            seen = peer(program)
+            with bounded():
+                seen = peer(program)
         except (Wrong, NoAnswer, subprocess.TimeoutExpired) as fault:
             sys.exit("%s %s: %s" % (who, peer.__doc__, fault))
         print("%s %s: well, %.1f s%s" % (who, peer.__doc__, time.monotonic() - begun, "; " + seen if seen else ""), flush=True)

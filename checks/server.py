@@ -35,6 +35,15 @@ def free_port():
     raise NoAnswer("no port was free")
 
 
+def most_held() -> int:
+    """How many bytes the system holds at most between two ends of a connection: what one has written and the other has not read."""
+    most = 0
+    for name in ("tcp_wmem", "tcp_rmem"):
+        with open("/proc/sys/net/ipv4/" + name, encoding="ascii") as row:
+            most += max(map(int, row.read().split()))
+    return most
+
+
 class Server:
     """A server that serves so many connections and then ends. More words may stand on its command line."""
 
@@ -89,6 +98,21 @@ class Server:
         """The processor time that it has used."""
         with open("/proc/%d/stat" % self.run.pid, encoding="ascii") as row:
             return sum(map(int, row.read().rpartition(")")[2].split()[11:13])) / 100
+
+    def unread(self, client: "Client") -> int:
+        """How many bytes the system holds of those that were written to this client: at the server's end and at the client's."""
+        here, there = self.port, client.wire.getsockname()[1]
+        queues: dict[tuple[int, ...], list[str]] = {}
+        with open("/proc/net/tcp", encoding="ascii") as rows:
+            next(rows)
+            for row in rows:
+                local, other, _, both = row.split()[1:5]
+                queues[tuple(int(address.rpartition(":")[2], 16) for address in (local, other))] = both.split(":")
+        if (there, here) not in queues:
+            raise NoAnswer("the system does not list the connection of port %d to port %d" % (there, here))
+        # A server that has closed the connection may have no end of it any more.
+        sent, come = queues.get((here, there), ["0"])[0], queues[there, here][1]
+        return int(sent, 16) + int(come, 16)
 
     def is_at_rest(self, patience=PATIENCE):
         """Waits until it uses no processor time: whatever was sent to it has come."""
