@@ -1,9 +1,9 @@
 -- what other crates may cite
+pub mod Lessened
 pub mod Rows
 pub mod Steps
 pub mod Written
 -- the crate's own
-mod Lessened
 mod Slid
 mod InTurn
 mod InStrips

@@ -3,6 +3,8 @@ use Rattle.std.proofs.Common.{ℕ, ◌+◌, ◌*◌, ◌≤◌, arith}
 use Rattle.std.proofs.lemmas.Int.{ints}
 use Rattle.std.proofs.lemmas.Nat.{mul-le}
 use Rattle.mw_model.specs.declared.offsets.OffsetBox.{OffsetBox}
+use Rattle.mw_model.specs.declared.offsets.Rect.{Rect}
+use Rattle.mw_rank_lent.specs.Middles.{FitsMedians}
 use Rattle.mw_c_lent.specs.declared.rules.Rule.{Rule}
 use Rattle.mw_c_lent.specs.declared.rules.Rule.TheVariants as rules
 use Rattle.mw_c_lent.specs.Narrow.{IsNarrow, IsNarrowRule}
@@ -29,4 +31,15 @@ fits_fewer top m n f le is = record {
   maxval = is.maxval;
   wide = is.wide;
   few = omega (arith, mul-le (5 * m + 16) (2 * (picture_in f).width) (5 * n + 16) (2 * (picture_in f).width) (omega (arith, le)) (omega arith), is.few);
+}
+
+-- and a tile that suits medians by wide vectors suits them by narrower ones
+pub fits_narrower : (m n reach : ℕ) (place tile : Rect) → n ≤ m → FitsMedians m reach place tile → FitsMedians n reach place tile
+fits_narrower m n reach place tile le is = record {
+  left = is.left;
+  across = is.across;
+  above = is.above;
+  below = is.below;
+  wide = omega (arith, is.wide, le);
+  high = omega (arith, is.high, le);
 }

@@ -1,5 +1,5 @@
 -- Gradients: the greatest less the least, of levels and of whole images.
-use Rattle.std.proofs.Common.{◌≡◌, ℕ, ℤ, true, ◌&&◌, ◌+◌, ◌-◌, ◌*◌, ◌<◌, List, map, length, fold, take, drop, min, max, refl, ap, sym, arith, ◌∙◌}
+use Rattle.std.proofs.Common.{◌≡◌, ℕ, ℤ, true, ◌&&◌, ◌+◌, ◌-◌, ◌*◌, ◌<◌, ◌≤◌, List, map, length, fold, take, drop, min, max, refl, ap, sym, subst, arith, ◌∙◌}
 use Rattle.std.specs.Ordering.{int_eq}
 use Rattle.std.proofs.lemmas.Bool.Decides.{Decides-and, Decides-int_eq}
 use Rattle.std.proofs.lemmas.List.{map-id, take_all}
@@ -14,6 +14,8 @@ use Rattle.mw_model.specs.Tasks.{cells_in}
 use Rattle.mw_model.specs.Windows.{View, seen_at}
 use Rattle.mw_model.proofs.ImageLaws.{fold-max_from_none, fold-min}
 use Rattle.mw_model.proofs.ImagePlaces.{length-rows, sample-redrawn}
+use Rattle.mw_grid.specs.Rectangles.{whole_frame}
+use Rattle.mw_line_lent.specs.Near.{StandsInside}
 use Rattle.mw_line_lent.specs.Differences.{IsSlidingDifference}
 use Rattle.mw_c_lent.specs.declared.slides.Slide.TheVariants as slide
 use Rattle.mw_c_lent.specs.Boxes.{IsMadeUnder}
@@ -78,3 +80,15 @@ whole_range level w f b top r out whole is strip first high made =
     let g = minus upper lower in
     made_whole (range_value (level top)) level w f g (box_offsets b) r out whole strip (λ x y across down. range_there b (level top) f x y is across down) made
     ∙ whole_strip g r (alike_strip f g r (record { kind = refl; width = refl; height = refl; maxval = refl }) strip) first high (length-rows (λ x y. sample upper x y - sample lower x y) f.width 0 f.height)
+
+-- a whole frame of 32 columns or more stands in itself
+pub whole_stands : (m n : ℕ) (place tile : Rect) → place ≡ whole_frame m n → tile ≡ whole_frame m n → 32 ≤ m → 1 ≤ n → StandsInside place tile
+whole_stands m n place tile one two wide some =
+    subst (λ (p : Rect). StandsInside p tile) (sym one) (subst (λ (t : Rect). StandsInside (whole_frame m n) t) (sym two) (record {
+      left = omega arith;
+      right = omega arith;
+      top = omega arith;
+      bottom = omega arith;
+      wide = omega (arith, wide);
+      some = omega (arith, some);
+    }))

@@ -24,6 +24,11 @@ slide_value top (slide.Greatest b) ns = greatest ns
 abbrev pub range_value : ℕ → List ℕ → ℕ
 range_value top ns = greatest ns - least top ns
 
+-- they are the greatest and the least under this rectangle
+pub record IsRange (upper lower : Slide) (box : OffsetBox) : Type 0 where
+  pub greatest : upper ≡ slide.Greatest box
+  pub least : lower ≡ slide.Least box
+
 -- the erosion or the dilation of an image
 abbrev pub slide_picture : Slide → Picture → Picture
 slide_picture (slide.Least b) f = erosion (box_offsets b) f

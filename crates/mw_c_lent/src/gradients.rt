@@ -1,12 +1,14 @@
 //! Gradients by full rectangles of few rows: the greatest less the least under the same rectangle, made in one pass where the rows
 //! stand, without rows in between.
 
-ghost use Rattle.std.specs.Prelude.{◌≡◌, ◌*◌, length, map, IfErr, IfOk, IfSome, false, true};
+ghost use Rattle.std.specs.Prelude.{◌≡◌, ◌*◌, length, map, IfErr, IfNone, IfOk, IfSome, false, true};
+ghost use Rattle.mw_model.specs.declared.offsets.OffsetBox.{OffsetBox};
 ghost use Rattle.mw_model.specs.Flat.{dilation, erosion, minus};
 ghost use Rattle.mw_model.specs.Pictures.{Picture};
 ghost use Rattle.mw_model.specs.Rectangles.{box_offsets};
 ghost use Rattle.mw_c_arrays.specs.Sources.{IsArrayImage, picture_in};
-ghost use Rattle.mw_c_lent.specs.Slides.{slide_picture};
+ghost use Rattle.mw_c_lent.specs.Slides.{IsRange, slide_picture};
+ghost use Rattle.mw_c_lent.specs.Suited.{SuitGradient};
 
 use crate::lendable::Lendable;
 use crate::slides::Slide;
@@ -18,7 +20,9 @@ use std::alloc::Global;
 
 /// The rectangle of a gradient, if these two extrema make one.
 fn gradient_box(upper: Slide, lower: Slide) -> Option<OffsetBox>
-    ensures { IfSome result (λ b. (f : Picture) → minus (dilation (box_offsets b) f) (erosion (box_offsets b) f) ≡ minus (slide_picture upper f) (slide_picture lower f)) }
+    ensures picture { IfSome result (λ b. (f : Picture) → minus (dilation (box_offsets b) f) (erosion (box_offsets b) f) ≡ minus (slide_picture upper f) (slide_picture lower f)) }
+    ensures range { IfSome result (λ b. IsRange upper lower b) }
+    ensures none { IfNone result ((b : OffsetBox) → IsRange upper lower b → ⊥) }
 {
     let Slide::Greatest(offsets) = upper else {
         return None;
@@ -42,6 +46,7 @@ fn put_gradient<P: Lendable>(
     requires sound { IsArrayImage f }
     requires room { length out.old ≡ (picture_in f).height * (picture_in f).width }
     ensures made { IfOk result (λ done. done ≡ true → map P.level out.new ≡ (minus (dilation (box_offsets offsets) (picture_in f.entry)) (erosion (box_offsets offsets) (picture_in f.entry))).samples) }
+    ensures taken { SuitGradient P.top_level offsets f.entry → IfOk result (λ done. done ≡ true) }
     ensures left_out { IfOk result (λ done. done ≡ false → out.new ≡ out.old) }
     ensures kept { IfErr result (λ _. out.new ≡ out.old) }
 {
@@ -69,6 +74,7 @@ pub(crate) fn put_range<P: Lendable>(
     requires sound { IsArrayImage f }
     requires room { length out.old ≡ (picture_in f).height * (picture_in f).width }
     ensures made { IfOk result (λ done. done ≡ true → map P.level out.new ≡ (minus (slide_picture upper (picture_in f.entry)) (slide_picture lower (picture_in f.entry))).samples) }
+    ensures taken { (b : OffsetBox) → IsRange upper lower b → SuitGradient P.top_level b f.entry → IfOk result (λ done. done ≡ true) }
     ensures left_out { IfOk result (λ done. done ≡ false → out.new ≡ out.old) }
     ensures kept { IfErr result (λ _. out.new ≡ out.old) }
 {

@@ -2,16 +2,19 @@
 //! copied, no plane filled, and nothing copied out. Such a kernel takes what it reads as a `Lent`. It says whether it made the
 //! rows, and wants memory only before it writes.
 
-ghost use Rattle.std.specs.Prelude.{◌≡◌, ◌+◌, ◌*◌, ◌<◌, ◌≤◌, [], ◌∷◌, length, map, IfErr, IfOk, IfSome, false, true};
+ghost use Rattle.std.specs.Prelude.{◌≡◌, ◌+◌, ◌*◌, ◌<◌, ◌≤◌, [], ◌∷◌, length, map, IfErr, IfNone, IfOk, IfSome, false, true};
+ghost use Rattle.std.specs.Arc.{arc_value};
+ghost use Rattle.mw_model.specs.Elements.{reach_of};
 ghost use Rattle.mw_model.specs.Pictures.{Picture, sample};
 ghost use Rattle.mw_model.specs.Plans.{plane_of};
 ghost use Rattle.mw_model.specs.PlanSteps.{Dilate, DilateBox, Erode, ErodeBox};
 ghost use Rattle.mw_model.specs.Tasks.{cells_in};
 ghost use Rattle.mw_c_arrays.specs.Sources.{IsArrayImage, picture_in};
-ghost use Rattle.mw_c_lent.specs.InPlace.{AreMiddleRows, IsWholeView};
+ghost use Rattle.mw_line_lent.specs.Near.{IsAround, StandsInside};
+ghost use Rattle.mw_c_lent.specs.InPlace.{AreInnerRows, AreMiddleRows, IsWholeView, inner_end, inner_first, rows_above, rows_below};
 ghost use Rattle.mw_c_lent.specs.Rules.{rule_picture};
 ghost use Rattle.mw_c_lent.specs.Rows.{EndAt, IsStrip, rows_from};
-ghost use Rattle.mw_c_lent.specs.Suited.{SuitRule, SuitTile};
+ghost use Rattle.mw_c_lent.specs.Suited.{SuitMiddle, SuitPlace, SuitRule, SuitTile};
 
 use crate::lendable::Lendable;
 use crate::rules::Rule;
@@ -34,13 +37,19 @@ pub struct Middle<'a> {
 }
 
 /// How far an element reaches up and down.
-fn reach(element: &Arc<Element>) -> (u32, u32) {
+fn reach(element: &Arc<Element>) -> (u32, u32)
+    ensures above { result.0 ≡ (reach_of (arc_value element.now).offsets).up }
+    ensures below { result.1 ≡ (reach_of (arc_value element.now).offsets).down }
+{
     let reach = element.reach();
     (reach.up, reach.down)
 }
 
 /// How many rows at the upper and at the lower side of a frame the kernel of a rule leaves out.
-fn margins(rule: Rule<'_>) -> (u32, u32) {
+fn margins(rule: Rule<'_>) -> (u32, u32)
+    ensures above { result.0 ≡ rows_above rule.entry }
+    ensures below { result.1 ≡ rows_below rule.entry }
+{
     match rule {
         Rule::Nth(element, _) => reach(element),
         Rule::Least(_) => (0, 0),
@@ -53,7 +62,9 @@ fn margins(rule: Rule<'_>) -> (u32, u32) {
 
 /// Of the rows from `first` on up to `end` those that the kernel of a rule may make.
 pub fn middle_of<'a>(rule: Rule<'a>, f: ArrayImage<'a>, first: u32, end: u32) -> Option<Middle<'a>>
-    ensures { IfSome result (λ m. AreMiddleRows first end m × (m.rule ≡ rule.entry) × (m.f ≡ f.entry)) }
+    ensures rows { IfSome result (λ m. AreMiddleRows first end m × (m.rule ≡ rule.entry) × (m.f ≡ f.entry)) }
+    ensures all { IfSome result (λ m. AreInnerRows first end m) }
+    ensures none { IfNone result (inner_end end (picture_in f.entry).height rule.entry ≤ inner_first first rule.entry) }
 {
     let (above, below) = margins(rule);
     let from = first.max(above);
@@ -113,6 +124,7 @@ fn put_least<P: Lendable>(
 ) -> Result<bool, NoMemory>
     requires room { length out.old ≡ tile.height * tile.width }
     ensures made { IfOk result (λ done. done ≡ true → (f : Picture) → IsWholeView P.level lent.now f → IsStrip tile f → f.maxval ≡ maxval → map P.level out.new ≡ cells_in tile (sample (plane_of (ErodeBox offsets) (f ∷ []) f.width f.height))) }
+    ensures taken { maxval ≤ P.top_level → IsAround offsets → StandsInside lent.now.place tile → IfOk result (λ done. done ≡ true) }
     ensures left_out { IfOk result (λ done. done ≡ false → out.new ≡ out.old) }
     ensures kept { IfErr result (λ _. out.new ≡ out.old) }
 {
@@ -132,6 +144,7 @@ fn put_greatest<P: Lendable>(
 ) -> Result<bool, NoMemory>
     requires room { length out.old ≡ tile.height * tile.width }
     ensures made { IfOk result (λ done. done ≡ true → (f : Picture) → IsWholeView P.level lent.now f → IsStrip tile f → map P.level out.new ≡ cells_in tile (sample (plane_of (DilateBox offsets) (f ∷ []) f.width f.height))) }
+    ensures taken { IsAround offsets → StandsInside lent.now.place tile → IfOk result (λ done. done ≡ true) }
     ensures left_out { IfOk result (λ done. done ≡ false → out.new ≡ out.old) }
     ensures kept { IfErr result (λ _. out.new ≡ out.old) }
 {
@@ -150,6 +163,7 @@ pub(crate) fn put_tile<P: Lendable>(
     requires room { length out.old ≡ tile.height * tile.width }
     ensures made { IfOk result (λ done. done ≡ true → (f : Picture) → IsWholeView P.level lent.now f → IsStrip tile f → f.maxval ≡ maxval → map P.level out.new ≡ cells_in tile (sample (rule_picture rule.entry f))) }
     ensures taken { maxval ≤ P.top_level → SuitRule rule.entry tile → IfOk result (λ done. done ≡ true) }
+    ensures lent { maxval ≤ P.top_level → SuitPlace lent.now.place rule.entry tile → IfOk result (λ done. done ≡ true) }
     ensures left_out { IfOk result (λ done. done ≡ false → out.new ≡ out.old) }
     ensures kept { IfErr result (λ _. out.new ≡ out.old) }
 {
@@ -172,6 +186,7 @@ pub fn put_middle<P: Lendable>(
     requires sound { IsArrayImage middle.f }
     requires rows { EndAt middle.from middle.to (length out.old) (picture_in middle.f) }
     ensures made { IfOk result (λ done. done ≡ true → map P.level out.new ≡ rows_from middle.entry.from (length out.old) (rule_picture middle.entry.rule (picture_in middle.entry.f))) }
+    ensures taken { SuitMiddle P.top_level middle.entry → IfOk result (λ done. done ≡ true) }
     ensures left_out { IfOk result (λ done. done ≡ false → out.new ≡ out.old) }
     ensures kept { IfErr result (λ _. out.new ≡ out.old) }
 {

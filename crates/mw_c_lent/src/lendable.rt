@@ -11,6 +11,7 @@ ghost use Rattle.mw_line.specs.Extrema.{IsSlidingExtremum};
 ghost use Rattle.mw_line_lent.specs.Near.{IsAround, StandsInside};
 ghost use Rattle.mw_c_lent.specs.Boxes.{IsMadeUnder};
 ghost use Rattle.mw_c_lent.specs.Levels.{HasLevelsUpTo};
+ghost use Rattle.mw_c_lent.specs.Narrow.{IsSmall};
 ghost use Rattle.mw_c_lent.specs.Slides.{range_value};
 ghost use Rattle.mw_c_lent.specs.Suited.{SuitTile};
 
@@ -45,6 +46,7 @@ pub trait Lendable: Broad {
     ) -> Result<bool, NoMemory>
         requires { length out.old ≡ tile.height * tile.width }
         ensures made { IfOk result (λ done. done ≡ true → IsMadeUnder (least (Self.level neutral)) Self.level (seen_at lent.now) (box_offsets offsets) tile out.new) }
+        ensures taken { IsAround offsets → StandsInside lent.now.place tile → IfOk result (λ done. done ≡ true) }
         ensures left_out { IfOk result (λ done. done ≡ false → out.new ≡ out.old) }
         ensures kept { IfErr result (λ _. out.new ≡ out.old) };
 
@@ -58,6 +60,7 @@ pub trait Lendable: Broad {
     ) -> Result<bool, NoMemory>
         requires { length out.old ≡ tile.height * tile.width }
         ensures made { IfOk result (λ done. done ≡ true → IsMadeUnder greatest Self.level (seen_at lent.now) (box_offsets offsets) tile out.new) }
+        ensures taken { IsAround offsets → StandsInside lent.now.place tile → IfOk result (λ done. done ≡ true) }
         ensures left_out { IfOk result (λ done. done ≡ false → out.new ≡ out.old) }
         ensures kept { IfErr result (λ _. out.new ≡ out.old) };
 
@@ -147,6 +150,7 @@ pub trait Lendable: Broad {
     ) -> Result<bool, NoMemory>
         requires { length out.old ≡ tile.height * tile.width }
         ensures made { IfOk result (λ done. done ≡ true → IsMadeUnder (range_value (Self.level top)) Self.level (seen_at lent.now) (box_offsets offsets) tile out.new) }
+        ensures taken { IsSmall offsets → StandsInside lent.now.place tile → IfOk result (λ done. done ≡ true) }
         ensures left_out { IfOk result (λ done. done ≡ false → out.new ≡ out.old) }
         ensures kept { IfErr result (λ _. out.new ≡ out.old) };
 }

@@ -7,5 +7,6 @@ mod Lanes
 mod Orders
 mod Further
 mod Nines
+mod Offsets
 -- what lower crates offer
 pub use Rattle.mw_rank_medians.proofs.mw_rank as mw_rank

@@ -1,5 +1,5 @@
 -- Squares with their origin in the middle, and where they are made (own).
-use Rattle.std.specs.Prelude.{◌≡◌, ℕ, ◌+◌, ◌*◌, ◌<◌, ◌≤◌, List, length, pos, ◌+ℤ◌, slice_index_or}
+use Rattle.std.specs.Prelude.{◌≡◌, ℕ, ◌+◌, ◌*◌, ◌<◌, ◌≤◌, List, length, pos, ◌+ℤ◌, neg_ℤ, slice_index_or}
 use Rattle.mw_model.specs.declared.offsets.Offset.{Offset}
 use Rattle.mw_model.specs.declared.offsets.Rect.{Rect}
 use Rattle.mw_model.specs.PlanSteps.{ranked}
@@ -18,6 +18,25 @@ pub record IsMiddle (s : Square) : Type 0 where
 -- its offsets
 abbrev pub square_offsets : Square → List Offset
 square_offsets s = offset_rows s.first s.side s.side
+
+-- the offsets of the square that reaches so far about its origin, row after row
+abbrev pub offsets_about : ℕ → List Offset
+offsets_about reach = offset_rows (record { dx = neg_ℤ (pos reach); dy = neg_ℤ (pos reach) }) (2 * reach + 1) (2 * reach + 1)
+
+-- they are these, and number k is their median, one for which there is a network
+pub record IsMedianAbout (reach k : ℕ) (offsets : List Offset) : Type 0 where
+  pub median : IsMedian (2 * reach + 1) k
+  pub square : offsets ≡ offsets_about reach
+
+-- the tile has whole rows of the place, one by one so long and so many that there are vectors of this width across and down, and the
+-- place has all rows that the square reaches
+pub record FitsMedians (width reach : ℕ) (place tile : Rect) : Type 0 where
+  pub left : tile.x ≡ place.x
+  pub across : tile.width ≡ place.width
+  pub above : place.y + reach ≤ tile.y
+  pub below : tile.y + tile.height + reach ≤ place.y + place.height
+  pub wide : width + 2 * reach ≤ place.width
+  pub high : width ≤ tile.height
 
 -- the median at column x of row y of the frame
 abbrev pub median_at : {A : Type 0} → (A → ℕ) → View A → Square → ℕ → ℕ → ℕ

@@ -1,10 +1,10 @@
 //! The medians of a tile, where they can be made without a copy of any row.
-ghost use Rattle.std.specs.Prelude.{◌≡◌, ◌+◌, ◌*◌, ◌≤◌, length, IfErr, IfOk, IsTrue, false, true};
+ghost use Rattle.std.specs.Prelude.{◌≡◌, ℕ, ◌+◌, ◌*◌, ◌≤◌, length, IfErr, IfOk, IsTrue, false, true};
 ghost use Rattle.mw_model.specs.Rasters.{Raster, raster, cell_at};
 ghost use Rattle.mw_model.specs.Windows.{seen_at};
 ghost use Rattle.mw_rank_medians.specs.mw_tile.Windows.{IsWindow};
 ghost use Rattle.mw_rank_medians.specs.mw_rank.Ranks.{IsRank};
-ghost use Rattle.mw_rank_lent.specs.Middles.{AreInner, HasMedians, HasTile, IsMiddle};
+ghost use Rattle.mw_rank_lent.specs.Middles.{AreInner, FitsMedians, HasMedians, HasTile, IsMedianAbout, IsMiddle};
 
 use crate::blocks::{Area, put_blocks};
 use crate::broad::Broad;
@@ -25,6 +25,7 @@ fn is_inner<P: Broad>(lent: &Lent<P>, square: Square, tile: Rect) -> bool
     ensures inner { IsTrue result → AreInner lent.now square tile.y tile.height }
     ensures wide { IsTrue result → P.WIDTH + 2 * square.reach ≤ lent.now.place.width }
     ensures tall { IsTrue result → P.WIDTH ≤ tile.height }
+    ensures fits { FitsMedians P.WIDTH square.reach lent.now.place tile → IsTrue result }
     ensures columns { IsTrue result → (tile.x ≡ lent.now.place.x) × (tile.width ≡ lent.now.place.width) }
 {
     let place = lent.place();
@@ -88,6 +89,7 @@ fn put_square<P: Broad>(
     requires middle { IsMiddle square }
     requires room { length out.old ≡ tile.height * tile.width }
     ensures made { IfOk result (λ done. done ≡ true → HasTile P.level lent.now square tile out.new) }
+    ensures taken { FitsMedians P.WIDTH square.reach lent.now.place tile → IfOk result (λ done. done ≡ true) }
     ensures left_out { IfOk result (λ done. done ≡ false → out.new ≡ out.old) }
     ensures kept { IfErr result (λ _. out.new ≡ out.old) }
 {
@@ -112,6 +114,7 @@ pub fn medians_into<P: Broad>(
     requires { length out.old ≡ tile.height * tile.width }
     ensures over_window { IfOk result (λ done. done ≡ true → IsRank P.level k (seen_at lent.now) offsets.now tile (raster tile.width tile.height out.new)) }
     ensures over_frame { IfOk result (λ done. done ≡ true → (f : Raster P) → IsWindow lent.now f offsets.now tile → IsRank P.level k (cell_at f) offsets.now tile (raster tile.width tile.height out.new)) }
+    ensures taken { (reach : ℕ) → IsMedianAbout reach k offsets.now → FitsMedians P.WIDTH reach lent.now.place tile → IfOk result (λ done. done ≡ true) }
     ensures left_out { IfOk result (λ done. done ≡ false → out.new ≡ out.old) }
     ensures kept { IfErr result (λ _. out.new ≡ out.old) }
 {

@@ -1,4 +1,4 @@
-use Rattle.std.proofs.Common.{◌≡◌, ℕ, true, [], ◌∷◌, map, ap, sym, ◌∙◌}
+use Rattle.std.proofs.Common.{◌≡◌, ℕ, true, [], ◌∷◌, map, ap, sym, arith, rules, ◌∙◌}
 use Rattle.std.proofs.lemmas.Result.{IfOk-weaker}
 use Rattle.mw_model.specs.Flat.{least, under}
 use Rattle.mw_model.specs.Pictures.{Picture, sample}
@@ -28,3 +28,11 @@ returns-clause-made g c =
     made_whole (least (level neutral)) level w f (plane_of (ErodeBox box) (f ∷ []) f.width f.height) (box_offsets box) r out whole strip
     (λ x y across down. least_box_there box f x y (least (level neutral) (under f (box_offsets box) x y)) across down (ap (λ (t : ℕ). least t (under f (box_offsets box) x y)) (c.in-Some.ensures.level ∙ sym top))) (made is))
     c.least_into.ensures.made
+
+pub returns-clause-taken : goal.returns-clause-taken
+returns-clause-taken g c = λ fits around stands. c.least_into.ensures.taken around stands
+
+pub returns-in_default-clause-taken : goal.returns-in_default-clause-taken
+returns-in_default-clause-taken g c = λ fits around stands.
+    let yes = c.in_default.ensures.fits.1 (omega (arith, fits)) in
+    search rules

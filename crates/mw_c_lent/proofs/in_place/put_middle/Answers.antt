@@ -1,13 +1,16 @@
-use Rattle.std.proofs.Common.{sym, ◌≡◌, ◌-◌, true, map, length, arith, refl, ◌∙◌}
+use Rattle.std.proofs.Common.{sym, ◌≡◌, ℕ, ◌-◌, true, map, length, arith, refl, ap, subst, ◌∙◌}
 use Rattle.std.proofs.lemmas.Result.{IfOk-weaker}
 use Rattle.mw_model.specs.declared.offsets.Rect.{Rect}
 use Rattle.mw_model.specs.Pictures.{Picture, sample}
+use Rattle.mw_model.specs.Rectangles.{rect}
 use Rattle.mw_model.specs.Tasks.{cells_in}
+use Rattle.mw_model.specs.Windows.{View}
 use Rattle.mw_c_arrays.specs.Sources.{picture_in}
 use Rattle.mw_c_arrays.proofs.SourceImages.{source_image}
 use Rattle.mw_c_lent.specs.InPlace.{IsWholeView}
 use Rattle.mw_c_lent.specs.Rules.{rule_picture}
 use Rattle.mw_c_lent.specs.Rows.{IsStrip, rows_from}
+use Rattle.mw_c_lent.specs.Suited.{SuitPlace, middle_tile}
 use Rattle.mw_c_lent.proofs.Steps.{rule_is_picture, strip_above}
 use Rattle.mw_c_lent.proofs.Rows.{between_count, strip_rows}
 use Rattle.mw_c_lent.proofs.Views.{whole_count, whole_is}
@@ -45,3 +48,19 @@ returns-clause-made g c =
     ∙ strip_rows made tile count (strip_above m.rule f tile strip) (rule_is_picture m.rule f image.picture).size
     (between_count m.from m.to c.width-width.result f.width count c.requires.rows.some c.width-width.ensures c.requires.rows.samples))
     c.put_tile.ensures.made
+
+pub returns-in_default-clause-taken : goal.returns-in_default-clause-taken
+returns-in_default-clause-taken g c = λ suit. absurd (c.in_default.ensures.none suit.levels)
+
+pub returns-clause-taken : goal.returns-clause-taken
+returns-clause-taken g c = λ suit.
+    let level = g.P.Pixel.level in
+    let m = c.args.middle in
+    let f = picture_in m.f in
+    let w = c.new-lent.result in
+    let image = source_image m.f c.requires.sound in
+    let tile : Rect = record { x = 0; y = m.from; width = c.width-width.result; height = m.to - m.from } in
+    let whole : IsWholeView level w f = whole_is level w f c.width-width.result c.height-height.result c.whole_frame.result c.in-Some.samples.now c.width-width.ensures c.height-height.ensures c.whole_frame.ensures.value c.new-lent.ensures c.in-Some.ensures.samples image.picture.size in
+    let there : middle_tile m ≡ tile = ap (λ (n : ℕ). rect 0 m.from n (m.to - m.from)) (sym c.width-width.ensures) in
+    c.put_tile.ensures.lent (omega (arith, suit.maxval, c.maxval.ensures))
+    (subst (λ (r : Rect). SuitPlace w.place m.rule r) there (subst (λ (p : Rect). SuitPlace p m.rule (middle_tile m)) (sym (ap (λ (v : View _). v.place) whole.view)) suit.rule))

@@ -1,20 +1,23 @@
-use Rattle.std.proofs.Common.{◌≡◌, true, [], ◌∷◌, map, ap, sym, subst, ◌∙◌}
+use Rattle.std.proofs.Common.{◌≡◌, true, List, [], ◌∷◌, map, ap, sym, subst, ◌∙◌}
 use Rattle.std.specs.Arc.{arc_value}
 use Rattle.std.proofs.lemmas.Result.{IfOk-weaker}
 use Rattle.mw_element.specs.declared.element.Element.{Element}
+use Rattle.mw_model.specs.declared.offsets.Offset.{Offset}
 use Rattle.mw_model.specs.Pictures.{Picture, sample}
 use Rattle.mw_model.specs.Plans.{plane_of}
 use Rattle.mw_model.specs.PlanSteps.{Dilate, DilateBox, Erode, ErodeBox}
 use Rattle.mw_model.specs.Rasters.{raster}
 use Rattle.mw_model.specs.Tasks.{cells_in}
 use Rattle.mw_model.specs.Windows.{seen_at}
+use Rattle.mw_rank_lent.specs.Middles.{IsMedianAbout}
 use Rattle.mw_rank_lent.specs.mw_rank.Ranks.{IsRank}
 use Rattle.mw_c_lent.specs.declared.rules.Rule.{Rule}
 use Rattle.mw_c_lent.specs.InPlace.{IsWholeView}
 use Rattle.mw_c_lent.specs.Rules.{rule_picture}
 use Rattle.mw_c_lent.specs.Rows.{IsStrip}
+use Rattle.mw_c_lent.proofs.Narrowed.{fits_narrower}
 use Rattle.mw_c_lent.proofs.Views.{ranks_whole}
-use Rattle.mw_c_lent.specs.Suited.{SuitRule, SuitTile}
+use Rattle.mw_c_lent.specs.Suited.{SuitMedian, SuitPlace, SuitRule, SuitTile}
 use Rattle.mw_c_lent.proofs.in_place.put_tile.Goals as goal
 
 pub returns-in-Nth-clause-made : goal.returns-in-Nth-clause-made
@@ -103,3 +106,35 @@ returns-in-GreatestBox-clause-taken g c = λ fits suit. absurd (subst (λ (x : R
 
 pub returns-in-AtLeast-clause-taken : goal.returns-in-AtLeast-clause-taken
 returns-in-AtLeast-clause-taken g c = λ fits suit. absurd (subst (λ (x : Rule). SuitRule x c.args.tile) c.in-AtLeast.is suit)
+
+pub returns-in-Least-clause-lent : goal.returns-in-Least-clause-lent
+returns-in-Least-clause-lent g c = λ fits suit.
+    c.put_least_under.ensures.taken fits (subst (λ (x : Element). SuitTile x.offsets c.args.tile) (sym c.deref-in-Least.ensures) (subst (λ (x : Rule). SuitPlace c.args.lent.now.place x c.args.tile) c.in-Least.is suit))
+
+pub returns-in-Greatest-clause-lent : goal.returns-in-Greatest-clause-lent
+returns-in-Greatest-clause-lent g c = λ fits suit.
+    c.put_greatest_under.ensures.taken (subst (λ (x : Element). SuitTile x.offsets c.args.tile) (sym c.deref-in-Greatest.ensures) (subst (λ (x : Rule). SuitPlace c.args.lent.now.place x c.args.tile) c.in-Greatest.is suit))
+
+pub returns-in-LeastBox-clause-lent : goal.returns-in-LeastBox-clause-lent
+returns-in-LeastBox-clause-lent g c = λ fits suit.
+    let is = subst (λ (x : Rule). SuitPlace c.args.lent.now.place x c.args.tile) c.in-LeastBox.is suit in
+    c.put_least.ensures.taken fits is.0 is.1
+
+pub returns-in-GreatestBox-clause-lent : goal.returns-in-GreatestBox-clause-lent
+returns-in-GreatestBox-clause-lent g c = λ fits suit.
+    let is = subst (λ (x : Rule). SuitPlace c.args.lent.now.place x c.args.tile) c.in-GreatestBox.is suit in
+    c.put_greatest.ensures.taken is.0 is.1
+
+pub returns-in-Nth-clause-lent : goal.returns-in-Nth-clause-lent
+returns-in-Nth-clause-lent g c = λ fits suit.
+    let place = c.args.lent.now.place in
+    let r = c.args.tile in
+    let k = c.in-Nth.k in
+    let same : c.offsets.result.now ≡ (arc_value c.in-Nth.element.now).offsets = c.offsets.ensures.value ∙ ap (λ (x : Element). x.offsets) c.deref.ensures in
+    let is : SuitMedian k (arc_value c.in-Nth.element.now).offsets place r = subst (λ (x : Rule). SuitPlace place x r) c.in-Nth.is suit in
+    c.medians_into.ensures.taken is.reach
+    (subst (λ (t : List Offset). IsMedianAbout is.reach k t) (sym same) is.median)
+    (fits_narrower 16 g.P.Vectored.WIDTH is.reach place r g.met.P.Vectored.is_narrow is.fits)
+
+pub returns-in-AtLeast-clause-lent : goal.returns-in-AtLeast-clause-lent
+returns-in-AtLeast-clause-lent g c = λ fits suit. absurd (subst (λ (x : Rule). SuitPlace c.args.lent.now.place x c.args.tile) c.in-AtLeast.is suit)

@@ -1,9 +1,10 @@
-use Rattle.std.proofs.Common.{◌≡◌, ℕ, true, max, min}
+use Rattle.std.proofs.Common.{◌≡◌, ℕ, pos, ◌-ℤ◌, ◌<ℤ◌, true, max, min}
 use Rattle.std.proofs.lemmas.Result.{IfOk-weaker}
 use Rattle.mw_model.specs.Rasters.{raster}
 use Rattle.mw_model.specs.Rectangles.{box_offsets}
 use Rattle.mw_model.specs.Windows.{seen_at}
 use Rattle.mw_line_lent.specs.Differences.{IsSlidingDifference}
+use Rattle.mw_line_lent.specs.Near.{IsAround, StandsInside}
 use Rattle.mw_c_lent.specs.Boxes.{IsMadeUnder}
 use Rattle.mw_c_lent.specs.Slides.{range_value}
 use Rattle.mw_c_lent.proofs.Ranges.{range_of_levels}
@@ -20,3 +21,10 @@ returns-clause-made c =
     (λ done. done ≡ true → IsMadeUnder (range_value top) (λ (n : ℕ). n) sight element tile out)
     (λ done made is. range_of_levels top sight element tile out (made is))
     c.differences_into.ensures.over_window
+
+pub returns-clause-taken : goal.returns-clause-taken
+returns-clause-taken c = λ small stands.
+    let box = c.args.offsets in
+    IfOk-weaker c.differences_into.result (λ done. IsAround box → StandsInside c.args.lent.now.place c.args.tile → (box.y1 -ℤ box.y0) <ℤ pos 18 → (box.x1 -ℤ box.x0) <ℤ pos 9 → done ≡ true) (λ done. done ≡ true)
+    (λ done near. near small.around stands small.low small.narrow)
+    c.differences_into.ensures.near

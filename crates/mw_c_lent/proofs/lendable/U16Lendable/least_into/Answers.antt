@@ -6,6 +6,7 @@ use Rattle.mw_model.specs.Rectangles.{box_offsets}
 use Rattle.mw_model.specs.Windows.{seen_at}
 use Rattle.mw_model.proofs.ImageLaws.{fold-min}
 use Rattle.mw_line.specs.Extrema.{IsSlidingExtremum}
+use Rattle.mw_line_lent.specs.Near.{IsAround, StandsInside}
 use Rattle.mw_c_lent.specs.Boxes.{IsMadeUnder}
 use Rattle.mw_c_lent.proofs.UnderBoxes.{made_of_levels}
 use Rattle.mw_c_lent.proofs.lendable.U16Lendable.least_into.Goals as goal
@@ -19,3 +20,9 @@ returns-clause-made c =
     IfOk-weaker c.boxes_into.result (λ done. done ≡ true → IsSlidingExtremum (λ (a b : ℕ). min a b) c.args.neutral sight element tile (raster tile.width tile.height out))
     (λ done. done ≡ true → IsMadeUnder (least c.args.neutral) (λ (n : ℕ). n) sight element tile out)
     (λ done is yes. made_of_levels (least c.args.neutral) (λ (a b : ℕ). min a b) c.args.neutral sight element tile out (fold-min c.args.neutral) (is yes)) c.boxes_into.ensures.over_window
+
+pub returns-clause-taken : goal.returns-clause-taken
+returns-clause-taken c = λ around stands.
+    IfOk-weaker c.boxes_into.result (λ done. IsAround c.args.offsets → StandsInside c.args.lent.now.place c.args.tile → done ≡ true) (λ done. done ≡ true)
+    (λ done near. near around stands)
+    c.boxes_into.ensures.near
