@@ -1,5 +1,4 @@
 -- the crate's own
-mod Differences
 mod Filtered
 mod Gathered
 mod InPlace
