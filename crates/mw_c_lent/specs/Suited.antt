@@ -36,14 +36,13 @@ SuitRule (rule.Least e) r = SuitTile (arc_value e.now).offsets r
 SuitRule (rule.Greatest e) r = SuitTile (arc_value e.now).offsets r
 SuitRule x r = ⊥
 
--- number k is the median under a square about its origin, and the tile has rows and columns enough for it
+-- number k is the median under a square about its origin, and the tile has rows enough for it, and columns beside those at the sides
 pub record SuitMedian (k : ℕ) (offsets : List Offset) (place tile : Rect) : Type 0 where
   pub reach : ℕ
   pub median : IsMedianAbout reach k offsets
   pub fits : FitsMedians 16 reach place tile
 
--- it is such an extremum, or one under a rectangle, and the tile stands in the place of the rows that are lent; or a median under a
--- square, and the tile has whole rows of the place, 16 at least
+-- it is such an extremum, or one under a rectangle and the tile stands in the place of the rows that are lent, or such a median
 abbrev pub SuitPlace : Rect → Rule → Rect → Type 0
 SuitPlace place (rule.LeastBox b) r = IsAround b × StandsInside place r
 SuitPlace place (rule.GreatestBox b) r = IsAround b × StandsInside place r

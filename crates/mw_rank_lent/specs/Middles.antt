@@ -28,8 +28,8 @@ pub record IsMedianAbout (reach k : ℕ) (offsets : List Offset) : Type 0 where
   pub median : IsMedian (2 * reach + 1) k
   pub square : offsets ≡ offsets_about reach
 
--- the tile has whole rows of the place, one by one so long and so many that there are vectors of this width across and down, and the
--- place has all rows that the square reaches
+-- the tile has whole rows of the place, which has all rows that the square reaches; and there are vectors of this width down the tile,
+-- and across it between the sides
 pub record FitsMedians (width reach : ℕ) (place tile : Rect) : Type 0 where
   pub left : tile.x ≡ place.x
   pub across : tile.width ≡ place.width
