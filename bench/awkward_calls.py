@@ -1,4 +1,5 @@
-"""What bench/awkward.py times of two libraries: flat calls on narrow and on low frames, under elements that are awkward for kernels.
+"""What bench/awkward.py times of two libraries: flat calls on narrow and on low frames, under elements that are awkward for kernels, and
+under tall elements on wide frames.
 
 A row is told as `u8 erosion, disc of 9, 17 x 8192`. Both libraries make the call by turns, so often that a timing takes about a
 millisecond or more, into one array, and it stops where they write different bytes. A time is that of the processor for one call, the best
@@ -43,6 +44,8 @@ OPERATIONS = {"erosion": ERODE, "opening": OPEN, "top-hat": WHITE_TOP_HAT, "grad
 KINDS = ("u8", "u16", "set")
 FRAMES = ((8192, 1), (1, 8192), (8192, 17), (17, 8192), (63, 1000), (33, 4096), (65, 64), (4095, 33), (300, 300), (1000, 999), (3, 3000),
           (640, 480))
+# Elements of over 100 rows are looked at on these.
+WIDE_FRAMES = ((2048, 512), (4096, 256))
 
 
 @functools.lru_cache(maxsize=1)
@@ -51,7 +54,7 @@ def samples():
     return {kind: image.ravel() for kind, image in images_of(1024).items()}
 
 
-@functools.lru_cache(maxsize=2 * len(FRAMES))
+@functools.lru_cache(maxsize=2 * len(FRAMES + WIDE_FRAMES))
 def picture(kind, width, height):
     return samples()[kind][: width * height].reshape(height, width).copy()
 
@@ -79,6 +82,10 @@ def sparse(across, count):
     return places(across, across, lambda x, y: y * across + x in chosen)
 
 
+def ring(across, thick):
+    return disc(across) - numpy.pad(disc(across - 2 * thick), thick)
+
+
 def boxes():
     sides = ((3, 3), (5, 5), (15, 15), (63, 63), (3, 1), (41, 1), (255, 1), (1, 3), (1, 41), (1, 255), (31, 3), (3, 31), (2, 2), (4, 6),
              (16, 16))
@@ -87,7 +94,7 @@ def boxes():
 
 def rounds():
     made = {"disc of %d" % it: (disc(it), None) for it in (5, 9, 15, 31)}
-    made["ring of 15"] = disc(15) - numpy.pad(disc(11), 2), None
+    made["ring of 15"] = ring(15, 2), None
     return made
 
 
@@ -113,6 +120,12 @@ def origins():
             "disc of 9 beside its origin": beside(disc(9), 20, 0), "9 x 1 far below its origin": beside(whole(9, 1), 0, 50)}
 
 
+def tall():
+    """Elements of over 100 rows: of many short runs, of a long one among them, and of long ones."""
+    made = {"disc of %d" % it: (disc(it), None) for it in (127, 255)}
+    return made | {"ring of 151": (ring(151, 2), None), "plus of 151": (places(151, 151, lambda x, y: 75 in (x, y)), None)}
+
+
 def medians():
     return {"%d x %d" % (it, it): (rectangle(it), None) for it in (3, 5, 9)} | {"disc of 9": (disc(9), None)}
 
@@ -123,6 +136,9 @@ def rows():
         for operation in OPERATIONS:
             for shape, element in (medians() if operation == "median" else made).items():
                 yield from (Row(kind, operation, shape, element, frame) for frame in FRAMES)
+            if operation != "median":
+                for shape, element in tall().items():
+                    yield from (Row(kind, operation, shape, element, frame) for frame in WIDE_FRAMES)
 
 
 # Times.

@@ -11,7 +11,7 @@ use mw_offset::run::{Extent, Run, counts_of, start_of_run};
 use std::alloc::Global;
 
 /// From how many runs of one length on a list of their chords costs less than a second chord of each.
-const MANY: usize = 6;
+pub(crate) const MANY: usize = 6;
 
 /// The longest run's length.
 pub(crate) fn longest_of(runs: &[Run]) -> usize
@@ -25,23 +25,28 @@ pub(crate) fn longest_of(runs: &[Run]) -> usize
     longest as usize
 }
 
-/// The length that comes after that one: the first that many runs have, or twice as much.
-fn next_size(counts: &[usize], size: usize) -> usize
+/// The length that comes after that one: the first that so many runs have, or twice as much.
+fn next_size(counts: &[usize], size: usize, many: usize) -> usize
     requires some { 0 < size }
     requires few { size ≤ 256 }
     ensures more { size < result }
     ensures twice { result ≤ 2 * size }
 {
     for count in size + 1..(2 * size).min(counts.len()) {
-        if counts[count] >= MANY {
+        if counts[count] >= many {
             return count;
         }
     }
     2 * size
 }
 
-/// The lengths of chords that runs up to the longest are made up of.
-pub(crate) fn sizes_of(alloc: Global, runs: &[Run], longest: usize) -> Result<Vec<usize>, NoMemory>
+/// The lengths of chords that runs up to the longest are made up of: doublings, and those that so many runs have.
+pub(crate) fn sizes_of(
+    alloc: Global,
+    runs: &[Run],
+    longest: usize,
+    many: usize,
+) -> Result<Vec<usize>, NoMemory>
     requires some { 0 < longest }
     requires short { longest ≤ 256 }
     requires all { AllByRecursion (λ (r : Run). r.count ≤ longest) runs.now }
@@ -50,11 +55,11 @@ pub(crate) fn sizes_of(alloc: Global, runs: &[Run], longest: usize) -> Result<Ve
     let counts = counts_of(alloc, runs, longest)?;
     let mut sizes = Vec::new(alloc);
     let mut size = 1usize;
-    let mut next = next_size(counts.as_slice(), size);
+    let mut next = next_size(counts.as_slice(), size, many);
     sizes.push(size)?;
     'sizes: while next <= longest {
         size = next;
-        next = next_size(counts.as_slice(), size);
+        next = next_size(counts.as_slice(), size, many);
         sizes.push(size)?;
     }
     Ok(sizes)

@@ -88,8 +88,8 @@ fn put_row<P: Laned, E: LanedExtremum<P>>(
     }
 }
 
-/// Writes the rows.
-pub(crate) fn put_rows<P: Laned, E: LanedExtremum<P>>(
+/// Writes the rows, one after another.
+fn put_by_rows<P: Laned, E: LanedExtremum<P>>(
     lists: &[P],
     places: &[usize],
     neutral: P,
@@ -106,5 +106,81 @@ pub(crate) fn put_rows<P: Laned, E: LanedExtremum<P>>(
 {
     for r in 0..rows.high {
         put_row::<P, E>(lists, places, neutral, out, rows, r);
+    }
+}
+
+/// Writes a block of columns, down all rows.
+#[inline(never)]
+fn put_column<P: Laned, E: LanedExtremum<P>>(
+    lists: &[P],
+    places: &[usize],
+    neutral: P,
+    out: &mut [P],
+    rows: Rows,
+    column: usize,
+)
+    requires column { column + 2 * P.WIDTH ≤ rows.width }
+    requires cells { (rows.high - 1) * rows.wide + rows.width ≤ length lists.now }
+    requires inside { AllByRecursion (λ p. p + ((rows.high - 1) * rows.wide + rows.width) ≤ length lists.now) places.now }
+    requires apart { rows.width ≤ rows.apart }
+    requires room { rows.at + (rows.high - 1) * rows.apart + rows.width ≤ length out.old }
+    ensures put { IsPutInRows rows.high (rows.at + column) (2 * P.WIDTH) rows.apart out.old out.new }
+    ensures made { (r i : ℕ) → r < rows.high → i < 2 * P.WIDTH → slice_index_or out.new (rows.at + column + r * rows.apart + i) neutral ≡ gathered_at E.merge lists.now neutral (r * rows.wide + (column + i)) neutral places.now }
+{
+    for r in 0..rows.high {
+        let from = r * rows.wide + column;
+        let at = rows.at + column + r * rows.apart;
+        put_block::<P, E>(lists, places, from, neutral, out, at);
+    }
+}
+
+/// Writes the rows, by blocks of columns. The last block begins early enough to end with them.
+fn put_by_columns<P: Laned, E: LanedExtremum<P>>(
+    lists: &[P],
+    places: &[usize],
+    neutral: P,
+    out: &mut [P],
+    rows: Rows,
+)
+    requires lanes { 2 * P.WIDTH ≤ rows.width }
+    requires cells { (rows.high - 1) * rows.wide + rows.width ≤ length lists.now }
+    requires inside { AllByRecursion (λ p. p + ((rows.high - 1) * rows.wide + rows.width) ≤ length lists.now) places.now }
+    requires apart { rows.width ≤ rows.apart }
+    requires room { rows.at + (rows.high - 1) * rows.apart + rows.width ≤ length out.old }
+    ensures put { IsPutInRows rows.high rows.at rows.width rows.apart out.old out.new }
+    ensures made { (r i : ℕ) → r < rows.high → i < rows.width → slice_index_or out.new (rows.at + r * rows.apart + i) neutral ≡ gathered_at E.merge lists.now neutral (r * rows.wide + i) neutral places.now }
+{
+    let n = rows.width;
+    let mut done = 0usize;
+    'by_block: while done < n {
+        let column = done.min(n - 2 * P::WIDTH);
+        put_column::<P, E>(lists, places, neutral, out, rows, column);
+        done = column + 2 * P::WIDTH;
+    }
+}
+
+/// From how many vectors on that a row of results is made of they are not in the nearest cache when the next row is.
+const VECTORS: usize = 1024;
+
+/// Writes the rows. Where a row is made of so much that it leaves the nearest cache, a block of columns is made of less.
+pub(crate) fn put_rows<P: Laned, E: LanedExtremum<P>>(
+    lists: &[P],
+    places: &[usize],
+    neutral: P,
+    out: &mut [P],
+    rows: Rows,
+)
+    requires lanes { 2 * P.WIDTH ≤ rows.width }
+    requires cells { (rows.high - 1) * rows.wide + rows.width ≤ length lists.now }
+    requires inside { AllByRecursion (λ p. p + ((rows.high - 1) * rows.wide + rows.width) ≤ length lists.now) places.now }
+    requires apart { rows.width ≤ rows.apart }
+    requires room { rows.at + (rows.high - 1) * rows.apart + rows.width ≤ length out.old }
+    ensures put { IsPutInRows rows.high rows.at rows.width rows.apart out.old out.new }
+    ensures made { (r i : ℕ) → r < rows.high → i < rows.width → slice_index_or out.new (rows.at + r * rows.apart + i) neutral ≡ gathered_at E.merge lists.now neutral (r * rows.wide + i) neutral places.now }
+{
+    if places.len().saturating_mul(rows.width) < VECTORS * P::WIDTH {
+        put_by_rows::<P, E>(lists, places, neutral, out, rows);
+    } else {
+        put_by_columns::<P, E>(lists, places, neutral, out, rows);
     }
 }

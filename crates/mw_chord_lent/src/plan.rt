@@ -10,10 +10,19 @@ use mw_tile_lent::Rect;
 /// How many vectors the lists of chords take.
 const VECTORS: usize = 24576;
 
+/// How many they take at most under an element so tall that blocks in those would have fewer rows than are laid out besides: with 1,920
+/// KiB of rows between two steps these are not 3 MiB. Where the blocks are too small even so, they take 2 MiB.
+const MORE: usize = 35840;
+
+pub(crate) const MOST: usize = 65536;
+
 /// How many vectors of columns a block has, and under a tall element, of which more rows are seen at once.
 const LANES: usize = 32;
 
 const FEW_LANES: usize = 16;
+
+/// Under a very tall one it has fewer pairs of vectors of columns than so many.
+const PAIRS: usize = 9;
 
 /// From how many rows below its first on an element is tall.
 const TALL: usize = 24;
@@ -41,34 +50,147 @@ fn part(all: usize, most: usize) -> usize
     all.div_ceil(parts).max(1).min(most).min(all)
 }
 
-/// How many columns a block has.
-fn columns_of(width: usize, across: usize, down: usize, lanes: usize) -> usize
+/// How many columns a block has, of so many at most.
+fn columns_of(width: usize, most: usize, lanes: usize) -> usize
     requires some { 0 < lanes }
     requires lanes { lanes ≤ 32 }
-    requires near { across ≤ 255 }
     requires across { 2 * lanes ≤ width }
     ensures lanes { 2 * lanes ≤ result }
     ensures across { result ≤ width }
     ensures narrow { result ≤ 2 ^ 12 }
 {
-    let vectors = if down < TALL { LANES } else { FEW_LANES };
-    let most = (vectors * lanes).max(2 * across);
-    part(width, most).max(2 * lanes)
+    part(width, most.max(1).min(4096)).max(2 * lanes)
 }
 
 /// How many rows a block has at most, whatever the element.
 const ROWS: usize = 900000;
 
-/// How many rows a block has, where each list has room for so many. No less than an element reaches down, since so many
-/// rows more are laid out.
-fn rows_of(height: usize, down: usize, room: usize) -> usize
+/// How many rows a block has, of so many at most.
+fn rows_of(height: usize, most: usize) -> usize
     requires some { 0 < height }
     ensures some { 0 < result }
     ensures down { result ≤ height }
     ensures low { result ≤ 1000000 }
 {
-    let most = room.saturating_sub(down).max(down).max(16).min(ROWS);
-    part(height, most)
+    part(height, most.max(1).min(ROWS))
+}
+
+/// How many columns and rows of results a block has at most. Any are right.
+#[derive(Clone, Copy)]
+struct Block {
+    width: usize,
+    high: usize,
+}
+
+/// How many more columns and rows are laid out for a block than it has.
+#[derive(Clone, Copy)]
+struct Beyond {
+    across: usize,
+    down: usize,
+}
+
+/// How many rows a block of so many columns has, where each list has so many cells.
+fn rows_among(cells: usize, width: usize, beyond: Beyond) -> usize {
+    let wide = width.saturating_add(beyond.across).max(1);
+    (cells / wide).saturating_sub(beyond.down)
+}
+
+/// How many of 4,096 samples that are laid out for a block are results.
+fn share_of(block: Block, beyond: Beyond) -> usize {
+    let wide = block.width.saturating_add(beyond.across);
+    let high = block.high.saturating_add(beyond.down);
+    let made = block.width.saturating_mul(block.high);
+    made.saturating_mul(4096) / wide.saturating_mul(high).max(1)
+}
+
+/// The block of which most is results, where each list has so many cells.
+fn tall_block(height: usize, cells: usize, beyond: Beyond, lanes: usize) -> Block {
+    let mut best = Block { width: 0, high: 0 };
+    for pairs in 1..PAIRS {
+        let width = lanes.saturating_mul(2).saturating_mul(pairs);
+        let high = rows_among(cells, width, beyond).min(height);
+        let block = Block { width, high };
+        if share_of(block, beyond) > share_of(best, beyond) {
+            best = block;
+        }
+    }
+    best
+}
+
+/// The block that lists of so many cells have room for.
+fn usual_block(width: usize, cells: usize, beyond: Beyond, lanes: usize) -> Block
+    requires some { 0 < lanes }
+    requires lanes { lanes ≤ 32 }
+    requires across { 2 * lanes ≤ width }
+{
+    let vectors = if beyond.down < TALL { LANES } else { FEW_LANES };
+    let most = vectors
+        .saturating_mul(lanes)
+        .max(beyond.across.saturating_mul(2));
+    let width = columns_of(width, most, lanes);
+    let high = rows_among(cells, width, beyond);
+    Block { width, high }
+}
+
+/// How many cells each of so many lists has, where all take so many vectors.
+fn cells_of(vectors: usize, lists: usize, lanes: usize) -> usize
+    requires some { 0 < lists }
+{
+    vectors.saturating_mul(lanes) / lists
+}
+
+/// The same, without what is laid out behind them.
+fn cells_within(vectors: usize, lists: usize, longest: usize, lanes: usize) -> usize
+    requires some { 0 < lists }
+{
+    let behind = lanes.saturating_mul(4 * BLOCKS).saturating_add(longest);
+    cells_of(vectors, lists, lanes).saturating_sub(behind)
+}
+
+/// From which share on blocks are large enough.
+const SHARE: usize = 256;
+
+/// No fewer rows has a block in the usual lists.
+const FEWEST: usize = 16;
+
+/// How many columns and rows a block of a tile has at most, which is made by so many lists.
+fn block_of(tile: Rect, lists: usize, longest: usize, beyond: Beyond, lanes: usize) -> Block
+    requires some { 0 < lanes }
+    requires lanes { lanes ≤ 32 }
+    requires lists { 0 < lists }
+    requires across { 2 * lanes ≤ tile.width }
+{
+    let usual = usual_block(
+        tile.width as usize,
+        cells_of(VECTORS, lists, lanes),
+        beyond,
+        lanes,
+    );
+    if usual.high >= beyond.down.max(FEWEST) {
+        return usual;
+    }
+    let height = tile.height as usize;
+    let cells = cells_within(MORE, lists, longest, lanes);
+    let block = tall_block(height, cells, beyond, lanes);
+    if share_of(block, beyond) >= SHARE {
+        return block;
+    }
+    tall_block(
+        height,
+        cells_within(MOST, lists, longest, lanes),
+        beyond,
+        lanes,
+    )
+}
+
+/// Whether lists are so many that blocks have more results where fewer are made, and more chords merged. Any answer is right.
+pub(crate) fn are_many(lists: usize, extent: Extent, lanes: usize) -> bool
+    requires left { extent.left ≤ℤ extent.right }
+    requires top { extent.top ≤ℤ extent.bottom }
+{
+    let beside = columns_after(extent).saturating_mul(rows_after(extent));
+    let room = MORE.saturating_mul(lanes);
+    lists.saturating_mul(beside).saturating_mul(7) > room
 }
 
 /// How many chunks so many cells take.
@@ -102,9 +224,11 @@ pub(crate) fn plan_of(
 {
     let across = columns_after(extent);
     let down = rows_after(extent);
-    let width = columns_of(tile.width as usize, across, down, lanes);
+    let beyond = Beyond { across, down };
+    let block = block_of(tile, lists, longest, beyond, lanes);
+    let width = columns_of(tile.width as usize, block.width, lanes);
     let wide = width + across;
-    let high = rows_of(tile.height as usize, down, VECTORS * lanes / lists / wide);
+    let high = rows_of(tile.height as usize, block.high);
     let chunk = BLOCKS * 2 * lanes;
     let chunks = chunks_of((high + down) * wide, chunk);
     Plan {

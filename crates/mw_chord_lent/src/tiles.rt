@@ -11,15 +11,13 @@ ghost use Rattle.mw_chord_lent.specs.Works.{IsBlockPlan, IsSeen};
 ghost use Rattle.mw_chord_lent.specs.Sizes.{AreSizesTo};
 
 use crate::blocks::{Work, put_blocks};
-use crate::chords::{longest_of, places_of, sizes_of};
-use crate::plan::{Plan, plan_of};
+use crate::chords::{MANY, longest_of, places_of, sizes_of};
+use crate::plan::{MOST, Plan, are_many, plan_of};
 use mw_line_lent::{Laned, LanedExtremum, Room};
 use mw_model::{NoMemory, Offset};
 use mw_offset::run::{Extent, Run, columns_after, extent_of, rows_after, runs_either_way};
 use mw_tile_lent::{Lent, Rect};
-
-/// How many vectors all lists may have, which are 2 MiB.
-const MOST: usize = 65536;
+use std::alloc::Global;
 
 /// Whether an element is small enough for its rows to be laid out around a block: it has at most 256 columns and rows.
 fn is_near(extent: Extent) -> bool
@@ -55,6 +53,33 @@ fn is_quick(runs: usize, tile: Rect, lanes: usize) -> bool
     runs <= RUNS || tile.width >= COLUMNS
 }
 
+/// The lengths of chords that runs up to the longest are made up of: no more than leave room for blocks of results.
+fn sizes_for(
+    alloc: Global,
+    runs: &[Run],
+    longest: usize,
+    extent: Extent,
+    lanes: usize,
+) -> Result<Vec<usize>, NoMemory>
+    requires some { 0 < longest }
+    requires short { longest ≤ 256 }
+    requires all { AllByRecursion (λ (r : Run). r.count ≤ longest) runs.now }
+    requires left { extent.left ≤ℤ extent.right }
+    requires top { extent.top ≤ℤ extent.bottom }
+    ensures { IfOk result (λ v. AreSizesTo longest v.items) }
+{
+    let sizes = sizes_of(alloc, runs, longest, MANY)?;
+    if are_many(sizes.len(), extent, lanes) {
+        return sizes_of(alloc, runs, longest, usize::MAX);
+    }
+    Ok(sizes)
+}
+
+/// Whether blocks have so few results among what is laid out for them that another kernel is sooner. Any answer is right.
+fn are_small(plan: Plan) -> bool {
+    plan.width.saturating_mul(plan.high).saturating_mul(64) < plan.span
+}
+
 /// Writes all results of a tile, for which it wants memory first. Says whether it did.
 fn put_tile<P: Laned, E: LanedExtremum<P>>(
     room: &mut Room<P>,
@@ -85,12 +110,12 @@ fn put_tile<P: Laned, E: LanedExtremum<P>>(
     if longest == 0 || longest > 256 {
         return Ok(false);
     }
-    let sizes = sizes_of(alloc, runs, longest)?;
+    let sizes = sizes_for(alloc, runs, longest, extent, P::WIDTH)?;
     if sizes.len() > 256 {
         return Ok(false);
     }
     let plan = plan_of(tile, extent, sizes.len(), longest, P::WIDTH);
-    if sizes.len() * plan.span > MOST * P::WIDTH {
+    if are_small(plan) || sizes.len() * plan.span > MOST * P::WIDTH {
         return Ok(false);
     }
     let places = places_of(alloc, runs, sizes.as_slice(), extent, plan.wide, plan.span)?;

@@ -1,7 +1,7 @@
 use Rattle.std.proofs.Common.{◌≡◌, ◌+◌, ◌-◌, ◌*◌, length, refl, arith}
 use Rattle.mw_chord_lent.specs.Placed.{gathered_at}
 use Rattle.mw_chord_lent.proofs.Puts.{all_fit, blocks_on, in_rows_none, in_rows_one, rows_le}
-use Rattle.mw_chord_lent.proofs.gather.put_rows.Goals as goal
+use Rattle.mw_chord_lent.proofs.gather.put_by_rows.Goals as goal
 
 pub loop-r-init : goal.loop-r-init
 loop-r-init g c = record { put = in_rows_none c.args.rows.high c.args.rows.at c.args.rows.width c.args.rows.apart c.args.out.now; made = λ r i few lt. absurd (omega (arith, few)) }

@@ -1,7 +1,7 @@
 use Rattle.std.proofs.Common.{◌≡◌, ℕ, ◌+◌, ◌*◌, ◌<◌, get_or}
 use Rattle.mw_line_lent.specs.Boxes.{IsPutInRows}
 use Rattle.mw_chord_lent.specs.Placed.{gathered_at}
-use Rattle.mw_chord_lent.proofs.gather.put_rows.Given as goal
+use Rattle.mw_chord_lent.proofs.gather.put_by_rows.Given as goal
 
 abbrev pub invariant-loop-r : goal.invariant-loop-r
 invariant-loop-r g l = record {
