@@ -2,7 +2,7 @@
 //! what is written between two steps is in the cache when it is read, and so high, where memory has room, that few rows are laid out
 //! twice by a kernel. A kernel may refuse any strip, or want memory for it: what is written then stands.
 
-ghost use Rattle.std.specs.Prelude.{◌≡◌, ◌+◌, ◌-◌, ◌*◌, ◌<◌, ◌≤◌, ◌≢◌, length, map, min, IfErr, IfNone, IfOk, IfSome, false, true};
+ghost use Rattle.std.specs.Prelude.{◌≡◌, ◌+◌, ◌-◌, ◌*◌, ◌/◌, ◌<◌, ◌≤◌, ◌≢◌, length, map, max, min, IfErr, IfNone, IfOk, IfSome, false, true};
 ghost use Rattle.mw_model.specs.declared.offsets.Rect.{Rect};
 ghost use Rattle.mw_model.specs.Pictures.{sample};
 ghost use Rattle.mw_model.specs.Tasks.{cells_in};
@@ -275,6 +275,61 @@ const NARROWEST: u32 = 32;
 /// more for each strip.
 const TIMES: u32 = 8;
 
+/// About how many bytes two elements take for each offset of a square of as many rows, and lists of chords more than under a lower one.
+/// Where no rows are looked at beyond a strip it may be lower.
+const BESIDES: u32 = 7;
+
+/// How many bytes are wanted beside the rows of a strip, more than under a low element.
+fn besides_of(most: u32, beyond: u32) -> u32 {
+    let each = most.saturating_mul(most).saturating_mul(2);
+    each.saturating_sub(beyond.saturating_mul(beyond))
+        .saturating_mul(BESIDES)
+}
+
+/// No more bytes have the rows between two steps, where fewer have no strip of about so many.
+const LAST: u32 = 2359296;
+
+/// How many rows a strip of about so many bytes has, where memory has no room for more.
+fn few_rows(bytes: u32, row_size: u32, beyond: u32, height: u32) -> Option<u32>
+    requires bytes { bytes ≤ 262144 }
+    requires size { 1 ≤ row_size }
+    requires few { beyond ≤ 255 }
+    requires high { 1 ≤ height }
+    ensures some { IfSome result (λ rows. 1 ≤ rows) }
+    ensures low { IfSome result (λ rows. rows ≤ height) }
+    ensures many { IfSome result (λ rows. min height (max 16 (bytes / row_size)) ≤ rows) }
+{
+    let rows = (bytes / row_size).max(16).min(height);
+    if rows + beyond > LAST / row_size {
+        return None;
+    }
+    Some(rows)
+}
+
+/// How many rows a strip of about so many bytes has: as many as memory has room for, or a few.
+fn rows_within(
+    bytes: u32,
+    together: u32,
+    besides: u32,
+    row_size: u32,
+    beyond: u32,
+    height: u32,
+) -> Option<u32>
+    requires bytes { bytes ≤ 262144 }
+    requires size { 1 ≤ row_size }
+    requires few { beyond ≤ 255 }
+    requires high { 1 ≤ height }
+    ensures some { IfSome result (λ rows. 1 ≤ rows) }
+    ensures low { IfSome result (λ rows. rows ≤ height) }
+    ensures many { IfSome result (λ rows. min height (max 16 (bytes / row_size)) ≤ rows) }
+    ensures fits { IfNone result ((5 * beyond + 16) * row_size ≤ 1703936 → ⊥) }
+{
+    match rows_of_strip(bytes, together, besides, row_size, beyond, height) {
+        Some(rows) => Some(rows),
+        None => few_rows(bytes, row_size, beyond, height),
+    }
+}
+
 /// About how many bytes the rows of a strip have.
 fn bytes_of_strip(composite: Composite<'_>) -> u32
     ensures most { result ≤ 262144 }
@@ -328,10 +383,11 @@ fn rows_of(composition: Composition<'_>, count: u32) -> Option<u32>
         reach,
     } = composition;
     let beyond = reach.up + reach.down;
-    let together = most_rows_beside(composite).saturating_mul(TIMES);
-    rows_of_strip(
+    let most = most_rows_beside(composite);
+    rows_within(
         bytes_of_strip(composite),
-        together,
+        most.saturating_mul(TIMES),
+        besides_of(most, beyond),
         row_size(f),
         beyond,
         count,

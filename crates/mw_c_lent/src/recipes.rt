@@ -207,10 +207,11 @@ pub(crate) fn row_size(f: ArrayImage<'_>) -> u32
 }
 
 /// How many rows a strip of about so many bytes has, if all are in memory: where that holds more, as many as are made together, and
-/// four times as many as are moved for the next strip.
+/// four times as many as are moved for the next strip, less as many as have the memory that is wanted besides.
 pub(crate) fn rows_of_strip(
     bytes: u32,
     together: u32,
+    besides: u32,
     row_size: u32,
     beyond: u32,
     height: u32,
@@ -228,7 +229,7 @@ pub(crate) fn rows_of_strip(
     let least = (bytes / row_size).max(16);
     let wanted = together.max(beyond * 4);
     let rows = least
-        .max(wanted.min(most.saturating_sub(beyond)))
+        .max(wanted.min(most.saturating_sub(beyond.saturating_add(besides / row_size))))
         .min(height);
     let all = rows + beyond;
     if all > most {
@@ -288,7 +289,7 @@ pub(crate) fn put_recipe<P: Lendable>(
     let beyond = beyond_of(recipe);
     let together = rows_made_together(recipe, height);
     let size = strip_size(recipe);
-    let Some(rows) = rows_of_strip(size, together, row_size(f), beyond, height) else {
+    let Some(rows) = rows_of_strip(size, together, 0, row_size(f), beyond, height) else {
         return Ok(false);
     };
     if width < 32 {

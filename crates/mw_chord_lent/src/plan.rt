@@ -10,11 +10,14 @@ use mw_tile_lent::Rect;
 /// How many vectors the lists of chords take.
 const VECTORS: usize = 24576;
 
-/// How many they take at most under an element so tall that blocks in those would have fewer rows than are laid out besides: with 1,920
-/// KiB of rows between two steps these are not 3 MiB. Where the blocks are too small even so, they take 2 MiB.
-const MORE: usize = 35840;
+/// How many they take at most under an element so tall that blocks in those would have fewer rows than are laid out besides: in a tile
+/// that may be a strip, so that these and the rows between two steps are not 3 MiB, and in a larger one, of which these are not 2 MiB.
+const BESIDE: usize = 31744;
 
-pub(crate) const MOST: usize = 65536;
+pub(crate) const ALONE: usize = 57000;
+
+/// How many vectors of samples a strip has at most.
+const STRIP: usize = 61440;
 
 /// How many vectors of columns a block has, and under a tall element, of which more rows are seen at once.
 const LANES: usize = 32;
@@ -147,11 +150,16 @@ fn cells_within(vectors: usize, lists: usize, longest: usize, lanes: usize) -> u
     cells_of(vectors, lists, lanes).saturating_sub(behind)
 }
 
-/// From which share on blocks are large enough.
-const SHARE: usize = 256;
-
-/// No fewer rows has a block in the usual lists.
+/// No fewer rows has a block in the usual lists, nor, where a tile has as many, in those beside a strip.
 const FEWEST: usize = 16;
+
+const FEWEST_BESIDE: usize = 32;
+
+/// Whether a tile has more samples than a strip.
+fn is_large(tile: Rect, lanes: usize) -> bool {
+    let count = (tile.width as usize).saturating_mul(tile.height as usize);
+    count > lanes.saturating_mul(STRIP)
+}
 
 /// How many columns and rows a block of a tile has at most, which is made by so many lists.
 fn block_of(tile: Rect, lists: usize, longest: usize, beyond: Beyond, lanes: usize) -> Block
@@ -170,27 +178,30 @@ fn block_of(tile: Rect, lists: usize, longest: usize, beyond: Beyond, lanes: usi
         return usual;
     }
     let height = tile.height as usize;
-    let cells = cells_within(MORE, lists, longest, lanes);
-    let block = tall_block(height, cells, beyond, lanes);
-    if share_of(block, beyond) >= SHARE {
-        return block;
+    if !is_large(tile, lanes) {
+        let cells = cells_within(BESIDE, lists, longest, lanes);
+        let block = tall_block(height, cells, beyond, lanes);
+        if block.high >= FEWEST_BESIDE.min(height) {
+            return block;
+        }
     }
     tall_block(
         height,
-        cells_within(MOST, lists, longest, lanes),
+        cells_within(ALONE, lists, longest, lanes),
         beyond,
         lanes,
     )
 }
 
-/// Whether lists are so many that blocks have more results where fewer are made, and more chords merged. Any answer is right.
+/// Whether lists are so many that with fewer, of which more chords are merged, blocks are so much larger that this is sooner. Any answer
+/// is right.
 pub(crate) fn are_many(lists: usize, extent: Extent, lanes: usize) -> bool
     requires left { extent.left ≤ℤ extent.right }
     requires top { extent.top ≤ℤ extent.bottom }
 {
     let beside = columns_after(extent).saturating_mul(rows_after(extent));
-    let room = MORE.saturating_mul(lanes);
-    lists.saturating_mul(beside).saturating_mul(7) > room
+    let room = BESIDE.saturating_mul(lanes);
+    lists.saturating_mul(beside).saturating_mul(6) > room
 }
 
 /// How many chunks so many cells take.

@@ -12,7 +12,7 @@ ghost use Rattle.mw_chord_lent.specs.Sizes.{AreSizesTo};
 
 use crate::blocks::{Work, put_blocks};
 use crate::chords::{MANY, longest_of, places_of, sizes_of};
-use crate::plan::{MOST, Plan, are_many, plan_of};
+use crate::plan::{ALONE, Plan, are_many, plan_of};
 use mw_line_lent::{Laned, LanedExtremum, Room};
 use mw_model::{NoMemory, Offset};
 use mw_offset::run::{Extent, Run, columns_after, extent_of, rows_after, runs_either_way};
@@ -40,6 +40,9 @@ const RUNS: usize = 52;
 
 const COLUMNS: u32 = 2048;
 
+/// And how many at most in any tile.
+const MOST_RUNS: usize = 400;
+
 /// Whether it is sooner to make chords. Any answer is right.
 fn is_quick(runs: usize, tile: Rect, lanes: usize) -> bool
     requires { lanes ≤ 32 }
@@ -50,10 +53,10 @@ fn is_quick(runs: usize, tile: Rect, lanes: usize) -> bool
     if u64::from(tile.width) * u64::from(tile.height) < SMALLEST {
         return false;
     }
-    runs <= RUNS || tile.width >= COLUMNS
+    runs <= RUNS || runs <= MOST_RUNS && tile.width >= COLUMNS
 }
 
-/// The lengths of chords that runs up to the longest are made up of: no more than leave room for blocks of results.
+/// The lengths of chords that runs up to the longest are made up of: under a tall element no more than leave room for blocks.
 fn sizes_for(
     alloc: Global,
     runs: &[Run],
@@ -75,9 +78,31 @@ fn sizes_for(
     Ok(sizes)
 }
 
-/// Whether blocks have so few results among what is laid out for them that another kernel is sooner. Any answer is right.
-fn are_small(plan: Plan) -> bool {
-    plan.width.saturating_mul(plan.high).saturating_mul(64) < plan.span
+/// From how many columns on chords are sooner than another kernel even where they are very many or blocks very small: that one then
+/// reads rows that are too long for the nearest cache as well.
+const WIDE: u32 = 4096;
+
+/// How many chords are too many in a narrower tile, since each is read in a line of the cache of its own.
+const CHORDS: usize = 350;
+
+/// One in so many samples that are laid out is a result at least, in a narrower tile and in a wide one.
+const PARTS: usize = 6;
+
+const PARTS_WIDE: usize = 64;
+
+/// Whether so many chords are sooner than another kernel. Where all rows of a tile are in a block, that one lays out as many. Any answer
+/// is right.
+fn is_worth(plan: Plan, chords: usize, tile: Rect) -> bool {
+    let is_wide = tile.width >= WIDE;
+    if chords > CHORDS && !is_wide {
+        return false;
+    }
+    if plan.high >= tile.height as usize {
+        return true;
+    }
+    let parts = if is_wide { PARTS_WIDE } else { PARTS };
+    let results = plan.width.saturating_mul(plan.high);
+    results.saturating_mul(parts) >= plan.span
 }
 
 /// Writes all results of a tile, for which it wants memory first. Says whether it did.
@@ -115,10 +140,13 @@ fn put_tile<P: Laned, E: LanedExtremum<P>>(
         return Ok(false);
     }
     let plan = plan_of(tile, extent, sizes.len(), longest, P::WIDTH);
-    if are_small(plan) || sizes.len() * plan.span > MOST * P::WIDTH {
+    if sizes.len() * plan.span > ALONE * P::WIDTH {
         return Ok(false);
     }
     let places = places_of(alloc, runs, sizes.as_slice(), extent, plan.wide, plan.span)?;
+    if !is_worth(plan, places.len(), tile) {
+        return Ok(false);
+    }
     room.hold(sizes.len() * plan.span, neutral)?;
     let work = Work {
         tile,
@@ -132,9 +160,10 @@ fn put_tile<P: Laned, E: LanedExtremum<P>>(
 }
 
 /// Writes at each place of the tile the extremum of the neutral sample and what is lent under the offsets, where these lie in 256
-/// columns and rows, the tile has eight vectors of columns and 32,768 samples, and the lists of chords take 2 MiB at most; with very
-/// many runs, where it has 2,048 columns. Says whether it did: where not, it writes nothing. Where what is lent has all that the frame
-/// has under the offsets, this is the extremum over the frame. It may want memory (`NoMemory`), but only before it writes.
+/// columns and rows, the tile has eight vectors of columns and 32,768 samples, and the lists of chords take 1.8 MiB at most; with many
+/// runs, where it has 2,048 columns, and with very many chords or small blocks, where it has 4,096. Says whether it did: where not, it
+/// writes nothing. Where what is lent has all that the frame has under the offsets, this is the extremum over the frame. It may want
+/// memory (`NoMemory`), but only before it writes.
 pub fn chords_into<P: Laned, E: LanedExtremum<P>>(
     room: &mut Room<P>,
     lent: &Lent<P>,

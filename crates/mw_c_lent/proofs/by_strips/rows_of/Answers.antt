@@ -11,7 +11,7 @@ returns-clause-many c =
     let bytes = c.bytes_of_strip.result in
     let row = c.row_size.result in
     let wide = c.requires.sound.wide in
-    IfSome_then c.rows_of_strip.result {P = λ rows. min c.args.count (max 16 (bytes / row)) ≤ rows} {Q = λ rows. rows < c.args.count → (16 ≤ rows) × (131072 < (rows + 1) * (2 * w))} c.rows_of_strip.ensures.many
+    IfSome_then c.rows_within.result {P = λ rows. min c.args.count (max 16 (bytes / row)) ≤ rows} {Q = λ rows. rows < c.args.count → (16 ≤ rows) × (131072 < (rows + 1) * (2 * w))} c.rows_within.ensures.many
     (λ rows least less. (omega (arith, least, less), bytes_within bytes row rows w c.bytes_of_strip.ensures.least c.row_size.ensures.some (omega (arith, c.row_size.ensures.small, wide)) (omega (arith, least, less))))
 
 pub returns-clause-none : goal.returns-clause-none
@@ -21,4 +21,4 @@ returns-clause-none c =
     let row = c.row_size.result in
     let wide = c.requires.sound.wide in
     let beyond : ℕ = reach.up + reach.down in
-    none_then c.rows_of_strip.result c.rows_of_strip.ensures.fits (λ no few. no (omega (arith, mul-le (5 * beyond + 16) row (5 * beyond + 16) (2 * w) (omega arith) (omega (arith, c.row_size.ensures.small, wide)), few)))
+    none_then c.rows_within.result c.rows_within.ensures.fits (λ no few. no (omega (arith, mul-le (5 * beyond + 16) row (5 * beyond + 16) (2 * w) (omega arith) (omega (arith, c.row_size.ensures.small, wide)), few)))
