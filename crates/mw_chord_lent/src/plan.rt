@@ -150,10 +150,11 @@ fn cells_within(vectors: usize, lists: usize, longest: usize, lanes: usize) -> u
     cells_of(vectors, lists, lanes).saturating_sub(behind)
 }
 
-/// No fewer rows has a block in the usual lists, nor, where a tile has as many, in those beside a strip.
+/// No fewer rows has a block in the usual lists.
 const FEWEST: usize = 16;
 
-const FEWEST_BESIDE: usize = 32;
+/// A block beside a strip is taken where so many of its shares are two of a larger one's, or more.
+const SHARES: usize = 5;
 
 /// Whether a tile has more samples than a strip.
 fn is_large(tile: Rect, lanes: usize) -> bool {
@@ -178,19 +179,15 @@ fn block_of(tile: Rect, lists: usize, longest: usize, beyond: Beyond, lanes: usi
         return usual;
     }
     let height = tile.height as usize;
-    if !is_large(tile, lanes) {
-        let cells = cells_within(BESIDE, lists, longest, lanes);
-        let block = tall_block(height, cells, beyond, lanes);
-        if block.high >= FEWEST_BESIDE.min(height) {
-            return block;
-        }
+    let few = cells_within(BESIDE, lists, longest, lanes);
+    let more = cells_within(ALONE, lists, longest, lanes);
+    let block = tall_block(height, few, beyond, lanes);
+    let larger = tall_block(height, more, beyond, lanes);
+    let share = share_of(block, beyond).saturating_mul(SHARES);
+    if !is_large(tile, lanes) && share >= share_of(larger, beyond).saturating_mul(2) {
+        return block;
     }
-    tall_block(
-        height,
-        cells_within(ALONE, lists, longest, lanes),
-        beyond,
-        lanes,
-    )
+    larger
 }
 
 /// Whether lists are so many that with fewer, of which more chords are merged, blocks are so much larger that this is sooner. Any answer
