@@ -55,14 +55,13 @@ fn part(all: usize, most: usize) -> usize
 
 /// How many columns a block has, of so many at most.
 fn columns_of(width: usize, most: usize, lanes: usize) -> usize
-    requires some { 0 < lanes }
     requires lanes { lanes ≤ 32 }
     requires across { 2 * lanes ≤ width }
     ensures lanes { 2 * lanes ≤ result }
     ensures across { result ≤ width }
     ensures narrow { result ≤ 2 ^ 12 }
 {
-    part(width, most.max(1).min(4096)).max(2 * lanes)
+    most.min(4096).min(width).max(2 * lanes)
 }
 
 /// How many rows a block has at most, whatever the element.
@@ -106,15 +105,25 @@ fn share_of(block: Block, beyond: Beyond) -> usize {
     made.saturating_mul(4096) / wide.saturating_mul(high).max(1)
 }
 
-/// The block of which most is results, where each list has so many cells.
-fn tall_block(height: usize, cells: usize, beyond: Beyond, lanes: usize) -> Block {
+/// How many of its columns a block adds to those before it, where the last one of a row begins early.
+fn columns_each(width: usize, block: usize) -> usize {
+    width / width.div_ceil(block.max(1)).max(1)
+}
+
+/// The block of which most is results, where each list has so many cells. It has whole pairs of vectors: where rows of results are
+/// pairs apart as well, none of them is written in two lines of the cache.
+fn tall_block(tile: Rect, cells: usize, beyond: Beyond, lanes: usize) -> Block {
     let mut best = Block { width: 0, high: 0 };
+    let mut most = 0usize;
     for pairs in 1..PAIRS {
         let width = lanes.saturating_mul(2).saturating_mul(pairs);
-        let high = rows_among(cells, width, beyond).min(height);
+        let high = rows_among(cells, width, beyond).min(tile.height as usize);
         let block = Block { width, high };
-        if share_of(block, beyond) > share_of(best, beyond) {
+        let each = columns_each(tile.width as usize, width);
+        let share = share_of(block, beyond).saturating_mul(each) / width.max(1);
+        if share > most {
             best = block;
+            most = share;
         }
     }
     best
@@ -130,7 +139,7 @@ fn usual_block(width: usize, cells: usize, beyond: Beyond, lanes: usize) -> Bloc
     let most = vectors
         .saturating_mul(lanes)
         .max(beyond.across.saturating_mul(2));
-    let width = columns_of(width, most, lanes);
+    let width = part(width, most.max(1)).max(2 * lanes);
     let high = rows_among(cells, width, beyond);
     Block { width, high }
 }
@@ -154,7 +163,7 @@ fn cells_within(vectors: usize, lists: usize, longest: usize, lanes: usize) -> u
 const FEWEST: usize = 16;
 
 /// A block beside a strip is taken where so many of its shares are two of a larger one's, or more.
-const SHARES: usize = 5;
+const SHARES: usize = 8;
 
 /// Whether a tile has more samples than a strip.
 fn is_large(tile: Rect, lanes: usize) -> bool {
@@ -178,11 +187,10 @@ fn block_of(tile: Rect, lists: usize, longest: usize, beyond: Beyond, lanes: usi
     if usual.high >= beyond.down.max(FEWEST) {
         return usual;
     }
-    let height = tile.height as usize;
     let few = cells_within(BESIDE, lists, longest, lanes);
     let more = cells_within(ALONE, lists, longest, lanes);
-    let block = tall_block(height, few, beyond, lanes);
-    let larger = tall_block(height, more, beyond, lanes);
+    let block = tall_block(tile, few, beyond, lanes);
+    let larger = tall_block(tile, more, beyond, lanes);
     let share = share_of(block, beyond).saturating_mul(SHARES);
     if !is_large(tile, lanes) && share >= share_of(larger, beyond).saturating_mul(2) {
         return block;

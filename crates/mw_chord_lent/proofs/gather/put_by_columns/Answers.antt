@@ -1,4 +1,4 @@
-use Rattle.std.proofs.Common.{◌≡◌, ℕ, ◌+◌, ◌*◌, ◌≤◌, refl, arith}
+use Rattle.std.proofs.Common.{◌≡◌, ◌+◌, ◌*◌, ◌≤◌, arith}
 use Rattle.mw_chord_lent.specs.Placed.{gathered_at}
 use Rattle.mw_chord_lent.proofs.Puts.{in_rows_none, in_rows_on, in_rows_part}
 use Rattle.mw_chord_lent.proofs.gather.put_by_columns.Goals as goal
