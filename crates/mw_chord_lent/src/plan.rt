@@ -162,8 +162,8 @@ fn cells_within(vectors: usize, lists: usize, longest: usize, lanes: usize) -> u
 /// No fewer rows has a block in the usual lists.
 const FEWEST: usize = 16;
 
-/// A block beside a strip is taken where so many of its shares are two of a larger one's, or more.
-const SHARES: usize = 8;
+/// A strip's block has fewer cells, but where one of more has over so many times the share of results.
+const SHARES: usize = 4;
 
 /// Whether a tile has more samples than a strip.
 fn is_large(tile: Rect, lanes: usize) -> bool {
@@ -192,7 +192,7 @@ fn block_of(tile: Rect, lists: usize, longest: usize, beyond: Beyond, lanes: usi
     let block = tall_block(tile, few, beyond, lanes);
     let larger = tall_block(tile, more, beyond, lanes);
     let share = share_of(block, beyond).saturating_mul(SHARES);
-    if !is_large(tile, lanes) && share >= share_of(larger, beyond).saturating_mul(2) {
+    if !is_large(tile, lanes) && share >= share_of(larger, beyond) {
         return block;
     }
     larger

@@ -88,7 +88,7 @@ const CHORDS: usize = 350;
 /// One in so many samples that are laid out is a result at least, in a narrower tile and in a wide one.
 const PARTS: usize = 6;
 
-const PARTS_WIDE: usize = 64;
+const PARTS_WIDE: usize = 256;
 
 /// Whether so many chords are sooner than another kernel. Where all rows of a tile are in a block, that one lays out as many. Any answer
 /// is right.
