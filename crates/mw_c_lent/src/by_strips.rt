@@ -286,7 +286,7 @@ fn besides_of(most: u32, beyond: u32) -> u32 {
         .saturating_mul(BESIDES)
 }
 
-/// No more bytes have the rows between two steps, where fewer have no strip of about so many.
+/// How many bytes the rows between two steps have at most under elements so tall that a strip with what is wanted beside it has no room.
 const LAST: u32 = 2359296;
 
 /// How many rows a strip of about so many bytes has, where memory has no room for more.

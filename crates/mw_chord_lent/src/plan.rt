@@ -105,7 +105,7 @@ fn share_of(block: Block, beyond: Beyond) -> usize {
     made.saturating_mul(4096) / wide.saturating_mul(high).max(1)
 }
 
-/// How many of its columns a block adds to those before it, where the last one of a row begins early.
+/// How many columns each block adds on average, where the last one of a row begins early.
 fn columns_each(width: usize, block: usize) -> usize {
     width / width.div_ceil(block.max(1)).max(1)
 }
@@ -151,7 +151,7 @@ fn cells_of(vectors: usize, lists: usize, lanes: usize) -> usize
     vectors.saturating_mul(lanes) / lists
 }
 
-/// The same, without what is laid out behind them.
+/// How many of them are left for results, where some are laid out behind each list.
 fn cells_within(vectors: usize, lists: usize, longest: usize, lanes: usize) -> usize
     requires some { 0 < lists }
 {
@@ -159,10 +159,10 @@ fn cells_within(vectors: usize, lists: usize, longest: usize, lanes: usize) -> u
     cells_of(vectors, lists, lanes).saturating_sub(behind)
 }
 
-/// No fewer rows has a block in the usual lists.
+/// How many rows a block has at least in the usual lists.
 const FEWEST: usize = 16;
 
-/// A strip's block has fewer cells, but where one of more has over so many times the share of results.
+/// A block of more cells than a strip leaves room for is taken where its share of results is over so many times as large.
 const SHARES: usize = 4;
 
 /// Whether a tile has more samples than a strip.
