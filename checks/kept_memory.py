@@ -23,7 +23,9 @@ from server import NoAnswer, Service
 
 # How long a client waits for its last reply, and the service for its end, in seconds.
 PATIENCE = 300
-CLIENTS, SIDE, OPENINGS, SIDES = 16, 2048, 8, (64, 128, 256, 512, 1024)
+# How many sessions the unit has.
+SESSIONS_OF_UNIT = 16
+CLIENTS, SIDE, OPENINGS, SIDES = SESSIONS_OF_UNIT, 2048, 8, (64, 128, 256, 512, 1024)
 SMALL = 100
 # By how many bytes a service may grow.
 SLACK = 10 << 20
@@ -50,6 +52,13 @@ def unit_rows(word):
 def settings_of_unit():
     """The environment that the unit gives the service."""
     return [it.split("=", 1) for row in unit_rows("Environment") for it in row.split()]
+
+
+def settings_for(sessions):
+    """The same for so many sessions: as many pools of the C library for each."""
+    given = dict(settings_of_unit())
+    given["MALLOC_ARENA_MAX"] = str(int(given["MALLOC_ARENA_MAX"]) * sessions // SESSIONS_OF_UNIT)
+    return list(given.items())
 
 
 def addresses_of_unit():

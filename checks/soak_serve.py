@@ -8,9 +8,9 @@ them one that opens pictures of 2048 x 2048, and a good one (checks/good_client.
     python3 checks/soak_serve.py crates/morphd/out/morphd [SECONDS [SEED [WORDS of the service]]]
 
 Its last line has sessions, requests, how often a client was bad, the resident size at the start and at the end, and how long a good client
-waits. It begins by spoiling what came, to show that it would notice. The service has the settings of the unit for systemd. At
-the end it is no larger than it was before the first client, but for SLACK, ends with status 0 when its standard input does, and has told
-nothing. It ends by itself: each reply has a time limit, and so has the whole.
+waits. It begins by spoiling what came, to show that it would notice. The service has the settings of the unit for systemd, and as many
+pools for each session. At the end it is no larger than it was before the first client, but for SLACK, ends with status 0 when its
+standard input does, and has told nothing. It ends by itself: each reply has a time limit, and so has the whole.
 """
 import collections
 import contextlib
@@ -23,7 +23,7 @@ import time
 
 import reference_model
 import soak_neighbours
-from kept_memory import SLACK, settings_of_unit
+from kept_memory import SLACK, settings_for
 from peers import hang_up
 from random_session import written
 from server import NoAnswer, Service
@@ -193,7 +193,8 @@ class Soak:
     # ---- the whole
 
     def to_the_end(self):
-        with Service(self.program, SESSIONS, tile=64, idle=IDLE, settings=settings_of_unit(), more=("--memory", str(MEMORY), *self.words)) as self.service:
+        more = ("--memory", str(MEMORY), *self.words)
+        with Service(self.program, SESSIONS, tile=64, idle=IDLE, settings=settings_for(SESSIONS), more=more) as self.service:
             self.runs()
 
     def work(self):
